@@ -1,0 +1,2 @@
+-- Theorems about the definitions of specs/.
+mod Sample
