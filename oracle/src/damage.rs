@@ -5,7 +5,7 @@ use crate::deck::{body_length, Deck};
 use crate::random::Rng;
 use std::ops::Range;
 
-type Way = fn(&mut Rng, &mut Vec<u8>, &mut Vec<u8>);
+type Way = fn(&mut Rng, &mut Deck);
 
 const WAYS: [Way; 16] = [
     flip_any,
@@ -46,10 +46,16 @@ pub const EDGE_UTF8: [&[u8]; 12] = [
 
 /// Damages a deck or its pool in one to three ways. It may happen to stay, or to become, well formed.
 pub fn damage(rng: &mut Rng, deck: &mut Vec<u8>, pool: &mut Vec<u8>) {
+    let mut hurt = Deck {
+        deck: std::mem::take(deck),
+        pool: std::mem::take(pool),
+    };
     for _ in 0..rng.one_of(&[1, 1, 1, 2, 3]) {
         let way = rng.one_of(&WAYS);
-        way(rng, deck, pool);
+        way(rng, &mut hurt);
     }
+    *deck = hurt.deck;
+    *pool = hurt.pool;
 }
 
 /// Where the records lie, as far as kinds and bodies can be followed.
@@ -118,7 +124,8 @@ fn get_number(deck: &[u8], place: usize) -> usize {
     usize::from(deck[place]) + 256 * usize::from(deck[place + 1])
 }
 
-fn flip_any(rng: &mut Rng, deck: &mut Vec<u8>, pool: &mut Vec<u8>) {
+fn flip_any(rng: &mut Rng, hurt: &mut Deck) {
+    let Deck { deck, pool } = hurt;
     let bytes = if rng.one_in(4) { pool } else { deck };
     if !bytes.is_empty() {
         let place = rng.below(bytes.len());
@@ -126,7 +133,8 @@ fn flip_any(rng: &mut Rng, deck: &mut Vec<u8>, pool: &mut Vec<u8>) {
     }
 }
 
-fn flip_kind(rng: &mut Rng, deck: &mut Vec<u8>, _pool: &mut Vec<u8>) {
+fn flip_kind(rng: &mut Rng, hurt: &mut Deck) {
+    let deck = &mut hurt.deck;
     if let Some((place, ())) = pick(rng, deck, |_| Some(())) {
         deck[place] = if rng.one_in(2) {
             deck[place] ^ (1 << rng.below(8))
@@ -138,13 +146,15 @@ fn flip_kind(rng: &mut Rng, deck: &mut Vec<u8>, _pool: &mut Vec<u8>) {
     }
 }
 
-fn change_meaning(rng: &mut Rng, deck: &mut Vec<u8>, _pool: &mut Vec<u8>) {
+fn change_meaning(rng: &mut Rng, hurt: &mut Deck) {
+    let deck = &mut hurt.deck;
     if let Some((place, field)) = pick(rng, deck, meaning_byte) {
         deck[place + field] = rng.one_of(&[0, 1, 2, 3, 4, 5, 6, 127, 128, 129, 255]);
     }
 }
 
-fn change_count(rng: &mut Rng, deck: &mut Vec<u8>, _pool: &mut Vec<u8>) {
+fn change_count(rng: &mut Rng, hurt: &mut Deck) {
+    let deck = &mut hurt.deck;
     if let Some((place, field)) = pick(rng, deck, count_field) {
         let count = get_number(deck, place + field);
         let changed = rng.one_of(&[
@@ -159,7 +169,8 @@ fn change_count(rng: &mut Rng, deck: &mut Vec<u8>, _pool: &mut Vec<u8>) {
     }
 }
 
-fn change_length(rng: &mut Rng, deck: &mut Vec<u8>, _pool: &mut Vec<u8>) {
+fn change_length(rng: &mut Rng, hurt: &mut Deck) {
+    let deck = &mut hurt.deck;
     if let Some(field) = pick_reference(rng, deck) {
         let length = get_number(deck, field + 2);
         let changed = rng.one_of(&[
@@ -174,7 +185,8 @@ fn change_length(rng: &mut Rng, deck: &mut Vec<u8>, _pool: &mut Vec<u8>) {
     }
 }
 
-fn cut_deck(rng: &mut Rng, deck: &mut Vec<u8>, _pool: &mut Vec<u8>) {
+fn cut_deck(rng: &mut Rng, hurt: &mut Deck) {
+    let deck = &mut hurt.deck;
     let ends = records(deck);
     let between_records = rng.one_in(2) && !ends.is_empty();
     let length = if between_records {
@@ -185,7 +197,8 @@ fn cut_deck(rng: &mut Rng, deck: &mut Vec<u8>, _pool: &mut Vec<u8>) {
     deck.truncate(length);
 }
 
-fn cut_pool(rng: &mut Rng, _deck: &mut Vec<u8>, pool: &mut Vec<u8>) {
+fn cut_pool(rng: &mut Rng, hurt: &mut Deck) {
+    let pool = &mut hurt.pool;
     let length = if rng.one_in(2) {
         pool.len().saturating_sub(1)
     } else {
@@ -194,7 +207,8 @@ fn cut_pool(rng: &mut Rng, _deck: &mut Vec<u8>, pool: &mut Vec<u8>) {
     pool.truncate(length);
 }
 
-fn insert(rng: &mut Rng, deck: &mut Vec<u8>, pool: &mut Vec<u8>) {
+fn insert(rng: &mut Rng, hurt: &mut Deck) {
+    let Deck { deck, pool } = hurt;
     let bytes = if rng.one_in(4) { pool } else { deck };
     for _ in 0..rng.between(1, 3) {
         let place = rng.below(bytes.len() + 1);
@@ -203,7 +217,8 @@ fn insert(rng: &mut Rng, deck: &mut Vec<u8>, pool: &mut Vec<u8>) {
     }
 }
 
-fn delete(rng: &mut Rng, deck: &mut Vec<u8>, pool: &mut Vec<u8>) {
+fn delete(rng: &mut Rng, hurt: &mut Deck) {
+    let Deck { deck, pool } = hurt;
     let bytes = if rng.one_in(4) { pool } else { deck };
     let start = rng.below(bytes.len() + 1);
     let end = (start + rng.between(1, 6)).min(bytes.len());
@@ -211,7 +226,8 @@ fn delete(rng: &mut Rng, deck: &mut Vec<u8>, pool: &mut Vec<u8>) {
 }
 
 /// Two records change places, neighbours or any two.
-fn swap_records(rng: &mut Rng, deck: &mut Vec<u8>, _pool: &mut Vec<u8>) {
+fn swap_records(rng: &mut Rng, hurt: &mut Deck) {
+    let deck = &mut hurt.deck;
     let found = records(deck);
     if found.len() < 2 {
         return;
@@ -233,7 +249,8 @@ fn swap(deck: &mut Vec<u8>, first: &Range<usize>, second: &Range<usize>) {
 }
 
 /// A record stands once more: right behind itself or before any other.
-fn repeat_record(rng: &mut Rng, deck: &mut Vec<u8>, _pool: &mut Vec<u8>) {
+fn repeat_record(rng: &mut Rng, hurt: &mut Deck) {
+    let deck = &mut hurt.deck;
     let found = records(deck);
     if found.is_empty() {
         return;
@@ -249,7 +266,8 @@ fn repeat_record(rng: &mut Rng, deck: &mut Vec<u8>, _pool: &mut Vec<u8>) {
 }
 
 /// A reference past the pool: by one, by far, or empty and past its end.
-fn bad_reference(rng: &mut Rng, deck: &mut Vec<u8>, pool: &mut Vec<u8>) {
+fn bad_reference(rng: &mut Rng, hurt: &mut Deck) {
+    let Deck { deck, pool } = hurt;
     let Some(field) = pick_reference(rng, deck) else {
         return;
     };
@@ -268,7 +286,8 @@ fn bad_reference(rng: &mut Rng, deck: &mut Vec<u8>, pool: &mut Vec<u8>) {
 }
 
 /// A reference to a text at the pool's end with a bad sequence in it, or with one that is just good.
-fn bad_utf8(rng: &mut Rng, deck: &mut Vec<u8>, pool: &mut Vec<u8>) {
+fn bad_utf8(rng: &mut Rng, hurt: &mut Deck) {
+    let Deck { deck, pool } = hurt;
     let Some(field) = pick_reference(rng, deck) else {
         return;
     };
@@ -291,10 +310,11 @@ fn bad_utf8(rng: &mut Rng, deck: &mut Vec<u8>, pool: &mut Vec<u8>) {
 }
 
 /// A reference that begins or ends inside a character, where the pool has one of several bytes.
-fn split_text(rng: &mut Rng, deck: &mut Vec<u8>, pool: &mut Vec<u8>) {
+fn split_text(rng: &mut Rng, hurt: &mut Deck) {
+    let Deck { deck, pool } = hurt;
     let inside: Vec<usize> = (0..pool.len()).filter(|&at| pool[at] >= 0x80).collect();
     if inside.is_empty() {
-        return bad_utf8(rng, deck, pool);
+        return bad_utf8(rng, hurt);
     }
     if let Some(field) = pick_reference(rng, deck) {
         let at = inside[rng.below(inside.len())].min(65_535);
@@ -305,7 +325,8 @@ fn split_text(rng: &mut Rng, deck: &mut Vec<u8>, pool: &mut Vec<u8>) {
 }
 
 /// Two leading records of one node change places, or one that must not repeat does.
-fn disorder(rng: &mut Rng, deck: &mut Vec<u8>, _pool: &mut Vec<u8>) {
+fn disorder(rng: &mut Rng, hurt: &mut Deck) {
+    let deck = &mut hurt.deck;
     let found = records(deck);
     let leading = |record: &Range<usize>| deck[record.start] <= 0x09;
     let pairs: Vec<usize> = (1..found.len())
