@@ -1,12 +1,14 @@
 //! The oracle: the round-trip emitter of YAMLRocks, compiled unchanged from its own text, with the deck, the refusals
 //! and the calls of document 01 around it. It says what the port must answer, for any input.
 
+pub mod antt;
 pub mod calls;
 pub mod damage;
 pub mod deck;
 pub mod judge;
 pub mod leaves;
 pub mod random;
+pub mod theorems;
 
 // emit_util, encode, roundtrip::ast and roundtrip::emit.
 include!(concat!(env!("OUT_DIR"), "/yamlrocks.rs"));

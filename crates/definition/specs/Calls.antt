@@ -105,13 +105,13 @@ pub data Call : Type 0 where
 
 -- one document, under the settings of the call
 unfoldable pub writeOne : Settings → Lent → Outcome
-writeOne s x = overTrees s (onOne (λ n. handed (emitOne s n) [] x) x) x
+writeOne s x = overTrees s (onOne (λ n. let t = emitOne s n in handed t [] x) x) x
 
 unfoldable pub writeAll : Settings → Lent → Outcome
-writeAll s x = overTrees s (λ ns. handed (emitAll s ns) [] x) x
+writeAll s x = overTrees s (λ ns. let t = emitAll s ns in handed t [] x) x
 
 unfoldable pub writeChanged : Lent → Outcome
-writeChanged x = overTrees plainSettings (λ ns. handed (bytesOfAll (collect ns)) (entries 0 (collect ns)) x) x
+writeChanged x = overTrees plainSettings (λ ns. let ws = collect ns in let t = bytesOfAll ws in let cs = entries 0 ws in handed t cs x) x
 
 unfoldable pub tellModified : Lent → Outcome
 tellModified x = overTrees plainSettings (onOne (λ n. answered [] [] (localModified n) x) x) x

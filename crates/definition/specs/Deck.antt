@@ -241,7 +241,7 @@ module _ (deck pool : Bytes) where
   -- a node's records up to its own, `n` of them at most
   unfoldable pub readWhole : ℕ → ℕ → Kept → Brought → Cursor → Read Whole
   readWhole zero last a b c = fault 7 (length deck)
-  readWhole (suc n) last a b c = bind (readRecord last c) (ownOrOn pool (λ a′ b′ d. readWhole n (kindAt deck c) a′ b′ d) a b (c .at))
+  readWhole (suc n) last a b c = let k = kindAt deck c in bind (readRecord last c) (ownOrOn pool (λ a′ b′ d. readWhole n k a′ b′ d) a b (c .at))
 
   -- a node, with so many levels left; refusal 6 comes after all others of its record
   unfoldable pub readNode : ℕ → Cursor → Read Node

@@ -89,7 +89,7 @@ kindAt deck c = byteAt deck (c .at)
 
 -- the record whose kind byte stands at a cursor
 unfoldable pub recordAt : Bytes → Cursor → Record
-recordAt deck c = recordOf (kindAt deck c) deck (c .at + 1)
+recordAt deck c = let k = kindAt deck c in recordOf k deck (c .at + 1)
 
 -- the bytes of a record, its kind byte too: none of an unknown kind
 unfoldable pub sizeOf : ℕ → ℕ
@@ -103,4 +103,4 @@ sizeOf k =
 
 -- the cursor after the record at a cursor
 unfoldable pub past : Bytes → Cursor → Cursor
-past deck c = record { at = c .at + sizeOf (kindAt deck c) }
+past deck c = let k = kindAt deck c in record { at = c .at + sizeOf k }

@@ -1,0 +1,204 @@
+//! Cases as theorems by computation: what the definitions give, beside what the Rust gives.
+
+use crate::antt;
+use crate::calls::{self, Call};
+use crate::damage;
+use crate::deck::{self, Deck};
+use crate::leaves;
+use crate::random::{lending, texts, trees, Rng};
+
+/// A theorem that puts some values of the definitions beside those of the Rust: its name, the lines that state and prove it, how many
+/// values it compares, and the case in words for whoever looks at a difference.
+pub struct Theorem {
+    pub name: String,
+    pub text: String,
+    pub compared: usize,
+    pub case: String,
+}
+
+/// One theorem for several values: what they have in common, the reading of a deck above all, is then computed once.
+fn computed(name: String, before: String, pairs: &[(String, String)], case: String) -> Theorem {
+    let side = |of: fn(&(String, String)) -> &String| -> String {
+        pairs.iter().map(|pair| of(pair).clone() + " ∷ ").collect()
+    };
+    let (left, right) = (side(|pair| &pair.0), side(|pair| &pair.1));
+    let text = format!(
+        "{before}{name} : ({left}[]) ≡ ({right}[])\nunfolding opened leavesOf\n{name} = refl\n\n"
+    );
+    let compared = pairs.len();
+    Theorem {
+        name,
+        text,
+        compared,
+        case,
+    }
+}
+
+fn hex(bytes: &[u8]) -> String {
+    bytes.iter().map(|byte| format!("{byte:02x}")).collect()
+}
+
+/// A tree of at most `nodes` nodes through all six calls, each with rooms of its own.
+pub fn tree(rng: &mut Rng, number: usize, nodes: usize, longest: usize) -> Theorem {
+    let documents = if rng.chance(75) {
+        vec![trees::document(rng, nodes, longest)]
+    } else {
+        trees::documents(rng, nodes, longest)
+    };
+    let pooling = rng.one_of(&deck::POOLINGS);
+    let deck = deck::build(&documents, pooling, rng);
+    let calls = lending::every_call(rng);
+    on_deck(rng, format!("tree{number}"), &deck, &calls)
+}
+
+/// A damaged deck through two calls: all documents, and one other.
+pub fn damaged(rng: &mut Rng, number: usize, nodes: usize, longest: usize) -> Theorem {
+    let documents = trees::documents(rng, nodes, longest);
+    let pooling = rng.one_of(&deck::POOLINGS);
+    let mut deck = deck::build(&documents, pooling, rng);
+    damage::damage(rng, &mut deck.deck, &mut deck.pool);
+    let calls = [
+        Call::EmitRoundtripAllWith(lending::null_style(rng)),
+        lending::call(rng),
+    ];
+    on_deck(rng, format!("damaged{number}"), &deck, &calls)
+}
+
+/// Towers of depth 64 and 65, by each way down.
+pub fn towers(rng: &mut Rng) -> Vec<Theorem> {
+    let mut made = Vec::new();
+    for (way, tower) in damage::TOWERS.into_iter().enumerate() {
+        for depth in [64, 65] {
+            let deck = damage::tower(tower, depth, way % 2 == 1);
+            let calls = [Call::EmitRoundtrip, Call::LocalModified];
+            made.push(on_deck(rng, format!("tower{way}-{depth}"), &deck, &calls));
+        }
+    }
+    made
+}
+
+/// Calls on one deck, each with rooms of its own.
+pub fn on_deck(rng: &mut Rng, name: String, deck: &Deck, calls: &[Call]) -> Theorem {
+    let mut pairs = Vec::new();
+    let mut case = format!("deck {} pool {}", hex(&deck.deck), hex(&deck.pool));
+    for call in calls {
+        let lent = lending::lent(rng, call, deck);
+        let came = calls::outcome(call, &lent);
+        case += &format!(
+            "\n  {call:?} output {} list {:?}: {came:?}",
+            hex(&lent.output),
+            lent.list
+        );
+        let given = antt::lent(&format!("{name}-deck"), &format!("{name}-pool"), &lent);
+        pairs.push((
+            format!("outcome {} {given}", antt::call(call)),
+            antt::outcome(&came),
+        ));
+    }
+    let before = named(&name, "deck", &deck.deck) + &named(&name, "pool", &deck.pool);
+    computed(name, before, &pairs, case)
+}
+
+fn named(name: &str, part: &str, bytes: &[u8]) -> String {
+    format!(
+        "abbrev {name}-{part} : Bytes\n{name}-{part} = {}\n\n",
+        antt::bytes(bytes)
+    )
+}
+
+/// A hazardous text through the leaves.
+pub fn text(rng: &mut Rng, number: usize, longest: usize) -> Theorem {
+    let text = texts::text(rng, longest);
+    let (start, indent, width) = (rng.below(12), rng.between(1, 6), rng.between(1, 24));
+    let pair = (
+        format!(
+            "leavesOf {} {start} {indent} {width}",
+            antt::bytes(text.as_bytes())
+        ),
+        leaves_of(&text, start, indent, width),
+    );
+    let case = format!("{text:?} start {start} indent {indent} width {width}");
+    computed(format!("text{number}"), String::new(), &[pair], case)
+}
+
+/// The same through the readers of YAML, in each form in which document 01 promises that it reads back.
+pub fn read_back(rng: &mut Rng, number: usize, longest: usize) -> Theorem {
+    let text = texts::text(rng, longest);
+    let (start, indent) = (rng.below(12), rng.between(1, 6));
+    let given = antt::bytes(text.as_bytes());
+    let pairs: Vec<(String, String)> = written_forms(rng, &text, &given, start, indent)
+        .into_iter()
+        .map(|form| (form, format!("some {given}")))
+        .collect();
+    let case = format!("{text:?} start {start} indent {indent}");
+    computed(format!("back{number}"), String::new(), &pairs, case)
+}
+
+fn leaves_of(text: &str, start: usize, indent: usize, width: usize) -> String {
+    format!(
+        "leaves {} {} {} {} {} {} {} {} {}",
+        antt::bytes(leaves::double_quoted_body(text).as_bytes()),
+        antt::bytes(leaves::single_quoted_body(text).as_bytes()),
+        antt::bytes(&leaves::block_scalar_header(text, b'|')),
+        antt::bytes(&leaves::block_scalar_body(text, indent)),
+        antt::bytes(&leaves::folded(text, start, indent, width)),
+        leaves::single_capable(text),
+        leaves::single_quotable(text, false),
+        leaves::use_literal_block(text),
+        leaves::has_breakable_space(text)
+    )
+}
+
+/// What the readers are given: double quotes always, single quotes and a literal block where the premises hold.
+fn written_forms(
+    rng: &mut Rng,
+    text: &str,
+    given: &str,
+    start: usize,
+    indent: usize,
+) -> Vec<String> {
+    let folding = antt::settings(&calls::Settings {
+        width: rng.between(1, 24),
+        ..calls::Settings::default()
+    });
+    let mut forms = vec![
+        format!("readDouble (quoted false {given})"),
+        format!("readDouble (quotedFolded {folding} false {given} {start})"),
+    ];
+    if text.chars().all(|character| character >= ' ') {
+        forms.push(format!("readSingle (quoted true {given})"));
+        forms.push(format!(
+            "readSingle (quotedFolded {folding} true {given} {start})"
+        ));
+    }
+    if leaves::use_literal_block(text) && !text.contains('\u{feff}') {
+        let header = antt::bytes(&leaves::block_scalar_header(text, b'|'));
+        let body = antt::bytes(&leaves::block_scalar_body(text, indent));
+        forms.push(format!("readLiteral ({header} ++ {body})"));
+    }
+    forms
+}
+
+/// An input of the emit program: a deck with its length, now and then cut, or its length misstated.
+pub fn program(rng: &mut Rng, number: usize, nodes: usize, longest: usize) -> Theorem {
+    let documents = trees::documents(rng, nodes, longest);
+    let deck = deck::build(&documents, deck::Pooling::InOrder, rng);
+    let stated = match rng.below(6) {
+        0 => rng.one_of(&[65_536, 65_537, u32::MAX]),
+        1 => deck.deck.len() as u32 + 1,
+        _ => deck.deck.len() as u32,
+    };
+    let mut input = stated.to_le_bytes().to_vec();
+    input.extend(&deck.deck);
+    input.extend(&deck.pool);
+    if rng.one_in(4) {
+        input.truncate(rng.below(input.len() + 1));
+    }
+    let came = calls::program(&input);
+    let pair = (
+        format!("program {}", antt::bytes(&input)),
+        antt::bytes(&came),
+    );
+    let case = format!("program on {}", hex(&input));
+    computed(format!("program{number}"), String::new(), &[pair], case)
+}
