@@ -8,6 +8,7 @@ pub mod deck;
 pub mod judge;
 pub mod leaves;
 pub mod random;
+pub mod scratch;
 pub mod theorems;
 
 // emit_util, encode, roundtrip::ast and roundtrip::emit.
