@@ -29,31 +29,16 @@ fn sort(node: &YamlNode) -> String {
 
 fn features(node: &YamlNode) -> Vec<&'static str> {
     let comments = &node.comments;
-    let scalar = matches!(node.kind, YamlNodeKind::Scalar(..));
-    let raw = comments.raw.as_deref();
-    let all = [
+    let above = comments.head_above_introducer().next().is_some();
+    let below = comments.head_below_introducer().next().is_some();
+    let mut all = vec![
         ("tag", node.tag.is_some()),
         ("anchor", node.anchor.is_some()),
         ("include", node.source.is_some()),
-        (
-            "head above",
-            comments.head.iter().any(|head| !head.below_introducer),
-        ),
-        (
-            "head below",
-            comments.head.iter().any(|head| head.below_introducer),
-        ),
+        ("head above", above),
+        ("head below", below),
         ("inline", comments.inline.is_some()),
         ("foot", !comments.foot.is_empty()),
-        ("raw on a scalar", scalar && raw.is_some()),
-        ("raw, changed", scalar && raw.is_some() && comments.modified),
-        ("raw, empty", raw == Some("")),
-        ("raw, line feed", raw.is_some_and(|raw| raw.ends_with('\n'))),
-        (
-            "raw, carriage return",
-            raw.is_some_and(|raw| raw.ends_with('\r')),
-        ),
-        ("raw elsewhere", !scalar && raw.is_some()),
         ("directive", !node.directives.is_empty()),
         ("blank lines", comments.blank_before > 0),
         ("pad", comments.value_pad > 0),
@@ -66,10 +51,24 @@ fn features(node: &YamlNode) -> Vec<&'static str> {
         ("explicit start", node.explicit_start),
         ("bom", node.leading_bom),
     ];
-    all.into_iter()
-        .filter(|(_, here)| *here)
-        .map(|(name, _)| name)
-        .collect()
+    all.extend(raw_features(node));
+    all.retain(|(_, here)| *here);
+    all.into_iter().map(|(name, _)| name).collect()
+}
+
+fn raw_features(node: &YamlNode) -> [(&'static str, bool); 6] {
+    let scalar = matches!(node.kind, YamlNodeKind::Scalar(..));
+    let changed = node.comments.modified;
+    let raw = node.comments.raw.as_deref();
+    let ends = |end| raw.is_some_and(|raw| raw.ends_with(end));
+    [
+        ("raw on a scalar", scalar && raw.is_some() && !changed),
+        ("raw, changed", scalar && raw.is_some() && changed),
+        ("raw elsewhere", !scalar && raw.is_some()),
+        ("raw, empty", raw == Some("")),
+        ("raw, line feed", ends('\n')),
+        ("raw, carriage return", ends('\r')),
+    ]
 }
 
 fn count(node: &YamlNode, place: Place, counts: &mut Counts) {
