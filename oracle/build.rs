@@ -1,7 +1,7 @@
 //! Finds the Rust source of YAMLRocks and writes the declarations by which it is compiled, unchanged, into this library.
 
 use std::path::{Path, PathBuf};
-use std::{env, fs};
+use std::{env, fs, process};
 
 /// Where the source lies when YAMLROCKS_SRC does not say so, seen from this package.
 const BESIDE: &str = "../../shared/docs/src";
@@ -12,37 +12,41 @@ fn main() {
     let emit_util = file(&root, "emit_util.rs");
     let ast = file(&root, "roundtrip/ast.rs");
     let emit = file(&root, "roundtrip/emit.rs");
-    let encode = fs::read_to_string(file(&root, "encode/mod.rs"))
-        .unwrap_or_else(|error| panic!("src/encode/mod.rs of YAMLRocks cannot be read: {error}."));
-    let null_style = item(&encode, "pub enum NullStyle {");
-    let breakable = item(
-        &encode,
-        "pub(crate) fn has_breakable_space(value: &str) -> bool {",
-    );
+    let encode = match fs::read_to_string(file(&root, "encode/mod.rs")) {
+        Ok(text) => text,
+        Err(error) => fail(&format!("src/encode/mod.rs cannot be read: {error}.")),
+    };
+    let null_style = item(&encode, "pub enum NullStyle ");
+    let breakable = item(&encode, "pub(crate) fn has_breakable_space(");
     // canonical_float and other things that no ported call uses stay unused here.
     let text = format!(
         "#[allow(dead_code)]\n#[path = {emit_util:?}]\npub mod emit_util;\n\
          pub mod encode {{\n{null_style}\n{breakable}\n}}\n\
          pub mod roundtrip {{\n#[path = {ast:?}]\npub mod ast;\n#[path = {emit:?}]\npub mod emit;\n}}\n"
     );
-    let out = PathBuf::from(env::var_os("OUT_DIR").expect("cargo sets OUT_DIR."));
-    fs::write(out.join("yamlrocks.rs"), text)
-        .unwrap_or_else(|error| panic!("The declarations cannot be written: {error}."));
+    let out = PathBuf::from(env::var_os("OUT_DIR").expect("cargo sets OUT_DIR"));
+    if let Err(error) = fs::write(out.join("yamlrocks.rs"), text) {
+        fail(&format!("The declarations cannot be written: {error}."));
+    }
+}
+
+/// Ends the build with a sentence.
+fn fail(sentence: &str) -> ! {
+    eprintln!("{sentence}");
+    process::exit(1);
 }
 
 /// The folder that holds src/roundtrip/emit.rs, as an absolute path.
 fn source_root() -> PathBuf {
     let named = env::var_os("YAMLROCKS_SRC").map(PathBuf::from);
     let root = named.unwrap_or_else(|| PathBuf::from(BESIDE));
-    root.canonicalize()
-        .ok()
-        .filter(|folder| folder.join("src/roundtrip/emit.rs").is_file())
-        .unwrap_or_else(|| {
-            panic!(
-                "The Rust source of YAMLRocks is not in {}: set YAMLROCKS_SRC to the folder that holds src/roundtrip/emit.rs.",
-                root.display()
-            )
-        })
+    match root.canonicalize() {
+        Ok(folder) if folder.join("src/roundtrip/emit.rs").is_file() => folder,
+        _ => fail(&format!(
+            "The Rust source of YAMLRocks is not in {}: set YAMLROCKS_SRC to the folder that holds src/roundtrip/emit.rs.",
+            root.display()
+        )),
+    }
 }
 
 /// A file of the source, which cargo is told to watch.
@@ -50,16 +54,20 @@ fn file(root: &Path, name: &str) -> PathBuf {
     let path = root.join(name);
     println!("cargo:rerun-if-changed={}", path.display());
     if !path.is_file() {
-        panic!("The Rust source of YAMLRocks has no file src/{name}.");
+        fail(&format!(
+            "The Rust source of YAMLRocks has no file src/{name}."
+        ));
     }
     path
 }
 
-/// The text of the item that opens with `first_line`, with the attributes and comments right above it.
-fn item(text: &str, first_line: &str) -> String {
+/// The text of the item whose first line begins so, with the attributes and comments right above it.
+fn item(text: &str, beginning: &str) -> String {
     let lines: Vec<&str> = text.lines().collect();
-    let Some(start) = lines.iter().position(|line| *line == first_line) else {
-        panic!("src/encode/mod.rs of YAMLRocks has no line `{first_line}`.");
+    let Some(start) = lines.iter().position(|line| line.starts_with(beginning)) else {
+        fail(&format!(
+            "src/encode/mod.rs of YAMLRocks has no line that begins with `{beginning}`."
+        ));
     };
     let above = lines[..start]
         .iter()
@@ -74,5 +82,7 @@ fn item(text: &str, first_line: &str) -> String {
             return lines[start - above..=index].join("\n");
         }
     }
-    panic!("The item `{first_line}` in src/encode/mod.rs of YAMLRocks does not end.");
+    fail(&format!(
+        "The item `{beginning}` in src/encode/mod.rs of YAMLRocks does not end."
+    ));
 }

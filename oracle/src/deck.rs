@@ -198,6 +198,8 @@ impl Builder<'_> {
                 Some(offset) => offset,
                 None => self.append(text, overlap(&self.made.pool, text)),
             },
+            // An empty text may lie anywhere, also inside a character.
+            Pooling::Garbage if text.is_empty() => self.rng.below(self.made.pool.len() + 1),
             Pooling::Garbage => {
                 self.garbage();
                 self.append(text, 0)

@@ -58,6 +58,16 @@ pub fn call(rng: &mut Rng) -> Call {
     }
 }
 
+/// A call that suits this number of documents, but for one in twenty: few cases are spent on refusal 8.
+pub fn call_for(rng: &mut Rng, documents: usize) -> Call {
+    loop {
+        let drawn = call(rng);
+        if documents == 1 || !drawn.takes_one_document() || rng.one_in(20) {
+            return drawn;
+        }
+    }
+}
+
 /// Each of the six calls once.
 pub fn every_call(rng: &mut Rng) -> [Call; 6] {
     [
