@@ -12,6 +12,7 @@ use mathlib.Core.Bool.{Bool, true, false}
 use mathlib.Core.List.{List, [], _∷_, _++_}
 use mathlib.Core.Option.{Option, none, some}
 use Rattle.definition.specs.Base.{Bytes}
+use Rattle.definition.specs.Utf8.{wellFormed}
 use Rattle.definition.specs.Quote.{doubleBody, singleBody, singleCapable, singleQuotable}
 use Rattle.definition.specs.Fold.{fold, hasBreakable}
 use Rattle.definition.specs.Block.{useLiteralBlock, blockHeader, blockBody}

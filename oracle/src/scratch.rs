@@ -16,7 +16,7 @@ const MODULE: usize = 16;
 const CRATES: [&str; 2] = ["cases_a", "cases_b"];
 
 /// For each case a tree through all calls, a text through the leaves and one through the readers; for every second one a damaged deck;
-/// a few program inputs, and towers.
+/// some strings around the edges of UTF-8, a few program inputs, and towers.
 pub fn draw(seed: u64, cases: usize) -> Vec<Theorem> {
     let rng = &mut Rng::new(seed);
     let mut made = theorems::towers(rng);
@@ -25,6 +25,9 @@ pub fn draw(seed: u64, cases: usize) -> Vec<Theorem> {
         made.push(theorems::tree(rng, number, nodes, LONGEST));
         made.push(theorems::text(rng, number, 3 * LONGEST));
         made.push(theorems::read_back(rng, number, 3 * LONGEST));
+        if number % 4 == 0 {
+            made.push(theorems::utf8(rng, number));
+        }
         if number % 2 == 0 {
             made.push(theorems::damaged(rng, number, nodes, LONGEST));
         }

@@ -4,8 +4,10 @@ use crate::antt;
 use crate::calls::{self, Call};
 use crate::damage;
 use crate::deck::{self, Deck};
+use crate::judge;
 use crate::leaves;
 use crate::random::{lending, texts, trees, Rng};
+use crate::roundtrip::ast::{YamlNode, YamlNodeKind};
 
 /// A theorem that puts some values of the definitions beside those of the Rust: its name, the lines that state and prove it, how many
 /// values it compares, and the case in words for whoever looks at a difference.
@@ -13,6 +15,8 @@ pub struct Theorem {
     pub name: String,
     pub text: String,
     pub compared: usize,
+    /// The nodes of the trees that are compared; none where the deck is refused.
+    pub nodes: usize,
     pub case: String,
 }
 
@@ -30,6 +34,7 @@ fn computed(name: String, before: String, pairs: &[(String, String)], case: Stri
         name,
         text,
         compared,
+        nodes: 0,
         case,
     }
 }
@@ -96,7 +101,23 @@ pub fn on_deck(rng: &mut Rng, name: String, deck: &Deck, calls: &[Call]) -> Theo
         ));
     }
     let before = named(&name, "deck", &deck.deck) + &named(&name, "pool", &deck.pool);
-    computed(name, before, &pairs, case)
+    let nodes = judge::read(&deck.deck, &deck.pool).map_or(0, |documents| count(&documents));
+    Theorem {
+        nodes,
+        ..computed(name, before, &pairs, case)
+    }
+}
+
+fn count(nodes: &[YamlNode]) -> usize {
+    let below = |node: &YamlNode| match &node.kind {
+        YamlNodeKind::Sequence(items) => count(items),
+        YamlNodeKind::Mapping(pairs) => {
+            let (keys, values): (Vec<_>, Vec<_>) = pairs.iter().cloned().unzip();
+            count(&keys) + count(&values)
+        }
+        _ => 0,
+    };
+    nodes.iter().map(|node| 1 + below(node)).sum()
 }
 
 fn named(name: &str, part: &str, bytes: &[u8]) -> String {
@@ -104,6 +125,27 @@ fn named(name: &str, part: &str, bytes: &[u8]) -> String {
         "abbrev {name}-{part} : Bytes\n{name}-{part} = {}\n\n",
         antt::bytes(bytes)
     )
+}
+
+/// Byte strings around the edges of UTF-8, good and bad.
+pub fn utf8(rng: &mut Rng, number: usize) -> Theorem {
+    let mut pairs = Vec::new();
+    let mut case = String::new();
+    for _ in 0..16 {
+        let mut bytes = Vec::new();
+        for _ in 0..rng.between(1, 3) {
+            match rng.below(4) {
+                0 => bytes.extend(rng.one_of(&damage::BAD_UTF8)),
+                1 => bytes.push(rng.byte()),
+                _ => bytes.extend(rng.one_of(&damage::EDGE_UTF8)),
+            }
+        }
+        let good = std::str::from_utf8(&bytes).is_ok();
+        case += &format!("{} {good} ", hex(&bytes));
+        let term = format!("wellFormed {}", antt::bytes(&bytes));
+        pairs.push((term, good.to_string()));
+    }
+    computed(format!("utf{number}"), String::new(), &pairs, case)
 }
 
 /// A hazardous text through the leaves.

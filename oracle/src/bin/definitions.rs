@@ -23,6 +23,9 @@ fn main() {
     for theorem in &differ {
         println!("differs: {}: {}", theorem.name, theorem.case);
     }
+    let trees = theorems.iter().filter(|theorem| theorem.nodes > 0);
+    let nodes: usize = trees.clone().map(|theorem| theorem.nodes).sum();
+    println!("{} decks were read, of {nodes} nodes", trees.count());
     let compared: usize = theorems.iter().map(|theorem| theorem.compared).sum();
     println!("{compared} compared, {} differ", differ.len());
     exit(i32::from(!differ.is_empty()));

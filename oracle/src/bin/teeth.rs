@@ -1,5 +1,6 @@
 //! Shows that the comparison has teeth: one-step changes are made to the definitions, one at a time, and each must be noticed.
-//! `teeth ROOT SCRATCH SEED CASES [WORD]`: only the changes whose line has WORD. The last line is `N changes, M unnoticed`.
+//! `teeth ROOT SCRATCH SEED CASES [WORD]`: only the changes whose line has WORD. A change that CASES cases do not notice is tried on ten
+//! times as many. The last line is `N changes, M unnoticed`.
 
 use oracle::scratch;
 use oracle::theorems::Theorem;
@@ -96,23 +97,35 @@ fn main() {
         fail("SEED and CASES are numbers.");
     };
     let wanted = words.get(4).map_or("", String::as_str);
-    let folder = Path::new(&words[1]);
-    let theorems = scratch::draw(seed, cases);
-    if let Err(error) = scratch::write(Path::new(&words[0]), folder, &theorems) {
-        fail(&format!(
-            "The scratch repository cannot be written: {error}."
-        ));
-    }
-    let chosen = EDITS
-        .iter()
-        .filter(|edit| format!("{edit:?}").contains(wanted));
+    let sets = [("few", cases), ("many", 10 * cases)].map(|(name, cases)| {
+        let folder = Path::new(&words[1]).join(name);
+        let theorems = scratch::draw(seed, cases);
+        if let Err(error) = scratch::write(Path::new(&words[0]), &folder, &theorems) {
+            fail(&format!(
+                "The scratch repository cannot be written: {error}."
+            ));
+        }
+        (folder, theorems)
+    });
     let mut tried = 0;
     let mut unnoticed = 0;
-    for edit in chosen {
-        let noticed = try_edit(folder, &theorems, edit);
+    for edit in EDITS
+        .iter()
+        .filter(|edit| format!("{edit:?}").contains(wanted))
+    {
+        let noticed = sets
+            .iter()
+            .map(|(folder, theorems)| try_edit(folder, theorems, edit))
+            .find(|&noticed| noticed > 0);
         tried += 1;
-        unnoticed += usize::from(noticed == 0);
-        println!("{noticed} notice {}: {} → {}", edit.0, edit.1, edit.2);
+        unnoticed += usize::from(noticed.is_none());
+        println!(
+            "{} notice {}: {} → {}",
+            noticed.unwrap_or(0),
+            edit.0,
+            edit.1,
+            edit.2
+        );
     }
     println!("{tried} changes, {unnoticed} unnoticed");
     exit(i32::from(unnoticed > 0));
