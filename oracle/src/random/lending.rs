@@ -25,8 +25,8 @@ pub fn settings(rng: &mut Rng) -> Settings {
 /// Settings within the limits.
 pub fn good_settings(rng: &mut Rng) -> Settings {
     let width = match rng.below(12) {
-        0..=3 => 0,
-        4..=6 => rng.between(1, 12),
+        0..=2 => 0,
+        3..=6 => rng.between(1, 12),
         7..=10 => rng.between(1, 40),
         _ => rng.one_of(&[80, 65_534, 65_535]),
     };

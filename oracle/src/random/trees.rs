@@ -36,9 +36,37 @@ pub struct Mood {
 }
 
 impl Mood {
+    /// A mood of any sort; now and then one with what would hide flow lines, or shared dash lines, taken out of it.
     pub fn draw(rng: &mut Rng) -> Mood {
+        let mut mood = Mood::any(rng);
+        match rng.below(6) {
+            0 => mood.quiet_flow(),
+            1 => mood.shared_dashes(),
+            _ => {}
+        }
+        mood
+    }
+
+    /// Without comments a flow collection stays on its line, where width and separators matter.
+    fn quiet_flow(&mut self) {
+        (self.head, self.inline, self.foot) = (0, 0, 0);
+        (self.include, self.tall) = (self.include / 4, 0);
+        self.flow = 70;
+    }
+
+    /// An item shares its dash's line only if it has no property and no comment on that line.
+    fn shared_dashes(&mut self) {
+        (self.tag, self.anchor, self.include) = (0, 0, 0);
+        (self.inline, self.inline_before_value) = (self.inline / 4, self.inline_before_value / 4);
+        (self.head, self.blank) = (self.head.max(30), self.blank.max(30));
+        (self.flow, self.tall, self.compact) = (self.flow / 4, 0, self.compact.max(40));
+    }
+
+    fn any(rng: &mut Rng) -> Mood {
         let levels: &[usize] = rng.one_of(&[
+            [0, 0, 0, 0, 0, 70].as_slice(),
             [0, 0, 0, 0, 20, 60].as_slice(),
+            [0, 0, 0, 15, 40, 90].as_slice(),
             [0, 0, 5, 10, 20, 40].as_slice(),
             [0, 5, 15, 30, 50, 90].as_slice(),
             [30, 50, 60, 70, 80, 95].as_slice(),
@@ -143,7 +171,7 @@ impl Grower<'_> {
         let count = if self.rng.chance(self.mood.tall) {
             1
         } else {
-            self.rng.between(1, most)
+            self.rng.one_of(&[1, 2, 2, 2, 3, 3, 4, 6]).min(most)
         };
         let parts = shares(self.rng, budget, count, least).into_iter();
         if sequence {
@@ -307,12 +335,14 @@ impl Grower<'_> {
 }
 
 /// `total` dealt out at random to `parts`, `least` or more to each; nothing left over unless there are no parts.
+/// It is dealt by handfuls, so that one child of several is often large and its siblings small.
 fn shares(rng: &mut Rng, total: usize, parts: usize, least: usize) -> Vec<usize> {
     let mut dealt = vec![least; parts];
-    for _ in parts * least..total {
-        if let Some(share) = dealt.get_mut(rng.below(parts)) {
-            *share += 1;
-        }
+    let mut left = total - parts * least;
+    while left > 0 && parts > 0 {
+        let handful = rng.between(1, left);
+        dealt[rng.below(parts)] += handful;
+        left -= handful;
     }
     dealt
 }
