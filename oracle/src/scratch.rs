@@ -8,28 +8,30 @@ use std::path::Path;
 use std::process::Command;
 use std::{fs, io};
 
-const NODES: usize = 20;
+/// The most nodes of a tree: small trees cost little, and meet most of what matters.
+const NODES: [usize; 4] = [4, 8, 12, 24];
 const LONGEST: usize = 16;
 /// How many theorems stand in one module.
 const MODULE: usize = 16;
 /// The crates of the scratch repository: one for each core.
 const CRATES: [&str; 2] = ["cases_a", "cases_b"];
 
-/// For each case a tree through all calls, a text through the leaves and one through the readers; for every second one a damaged deck;
-/// some strings around the edges of UTF-8, a few program inputs, and towers.
+/// For each case a tree through all calls, a damaged deck through two, and, since they cost little, strings around the edges of UTF-8, four
+/// texts through the leaves and two through the readers; in all a few program inputs, and towers.
 pub fn draw(seed: u64, cases: usize) -> Vec<Theorem> {
     let rng = &mut Rng::new(seed);
     let mut made = theorems::towers(rng);
     for number in 0..cases {
-        let nodes = rng.between(1, NODES);
+        let most = rng.one_of(&NODES);
+        let nodes = rng.between(1, most);
         made.push(theorems::tree(rng, number, nodes, LONGEST));
-        made.push(theorems::text(rng, number, 3 * LONGEST));
-        made.push(theorems::read_back(rng, number, 3 * LONGEST));
-        if number % 4 == 0 {
-            made.push(theorems::utf8(rng, number));
+        made.push(theorems::damaged(rng, number, nodes, LONGEST));
+        made.push(theorems::utf8(rng, number));
+        for part in 0..4 {
+            made.push(theorems::text(rng, 4 * number + part, 3 * LONGEST));
         }
-        if number % 2 == 0 {
-            made.push(theorems::damaged(rng, number, nodes, LONGEST));
+        for part in 0..2 {
+            made.push(theorems::read_back(rng, 2 * number + part, 3 * LONGEST));
         }
         if number % 50 == 0 {
             made.push(theorems::program(rng, number, nodes, LONGEST));

@@ -1,5 +1,5 @@
 //! Shows that the comparison has teeth: one-step changes are made to the definitions, one at a time, and each must be noticed.
-//! `teeth ROOT SCRATCH SEED CASES [WORD]`: only the changes whose line has WORD. A change that CASES cases do not notice is tried on ten
+//! `teeth ROOT SCRATCH SEED CASES [WORD]`: only the changes whose line has WORD. A change that CASES cases do not notice is tried on six
 //! times as many. The last line is `N changes, M unnoticed`.
 
 use oracle::scratch;
@@ -24,7 +24,7 @@ const EDITS: &[Edit] = &[
     ("Quote", "if leb n 0xff then", "if leb n 0x7f then"),
     ("Quote", "if eqb n 0 then BACKSLASH ∷ 48", "if eqb n 1 then BACKSLASH ∷ 48"),
     ("Fold", "not (eqb (getD s 0 SP) SP)", "not (eqb (getD s 0 0) SP)"),
-    ("Fold", "if ltb (f .width) (col + 1", "if leb (f .width) (col + 1"),
+    ("Fold", "(col + 1 + ahead (f .weight) true s)", "(col + ahead (f .weight) true s)"),
     ("Fold", "folded f true (f .indent) s)", "folded f true 0 s)"),
     ("Fold", "if eqb b LF then 0 else on", "if eqb b LF then 1 else on"),
     ("Block", "eqb b SP || eqb b TAB", "eqb b SP || eqb b CR"),
@@ -84,7 +84,7 @@ const EDITS: &[Edit] = &[
     ("Calls", "ltb 16 (s .indent)", "ltb 17 (s .indent)"),
     ("Calls", "ltb 65535 (s .width)", "ltb 65536 (s .width)"),
     ("Calls", "entries (start + length (w .bytes)) ws", "entries start ws"),
-    ("Calls", "if ltb (length (x .output)) (length t)", "if leb (length (x .output)) (length t)"),
+    ("Calls", "if ltb (length (x .output)) (length t)", "if ltb (length (x .output)) (suc (length t))"),
     ("Program", "ltb 65536 n then", "ltb 65537 n then"),
 ];
 
@@ -97,7 +97,7 @@ fn main() {
         fail("SEED and CASES are numbers.");
     };
     let wanted = words.get(4).map_or("", String::as_str);
-    let sets = [("few", cases), ("many", 10 * cases)].map(|(name, cases)| {
+    let sets = [("few", cases), ("many", 6 * cases)].map(|(name, cases)| {
         let folder = Path::new(&words[1]).join(name);
         let theorems = scratch::draw(seed, cases);
         if let Err(error) = scratch::write(Path::new(&words[0]), &folder, &theorems) {
