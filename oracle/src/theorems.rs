@@ -1,13 +1,14 @@
 //! Cases as theorems by computation: what the definitions give, beside what the Rust gives.
 
 use crate::antt;
-use crate::calls::{self, Call};
+use crate::calls::{self, Call, Settings};
 use crate::damage;
 use crate::deck::{self, Deck};
 use crate::judge;
 use crate::leaves;
 use crate::random::{lending, texts, trees, Rng};
-use crate::roundtrip::ast::{YamlNode, YamlNodeKind};
+use crate::roundtrip::ast::{NodeStyle, YamlNode, YamlNodeKind};
+use crate::scanner::{ScalarStyle, Span};
 
 /// A theorem that puts some values of the definitions beside those of the Rust: its name, the lines that state and prove it, how many
 /// values it compares, and the case in words for whoever looks at a difference.
@@ -67,6 +68,56 @@ pub fn damaged(rng: &mut Rng, number: usize, nodes: usize, longest: usize) -> Th
         lending::call(rng),
     ];
     on_deck(rng, format!("damaged{number}"), &deck, &calls)
+}
+
+/// A scalar that can be folded, at one of the places where it stands on a line, under widths around what the line comes to.
+pub fn width(rng: &mut Rng, number: usize, longest: usize) -> Theorem {
+    let mut text = texts::words(rng, longest);
+    text.push_str(rng.one_of(&["", "", "", ":", ": b", ",", "]", "}"]));
+    let line = text.len() + 2;
+    let deck = deck::build(&[placed(rng, text)], deck::Pooling::InOrder, rng);
+    let calls: Vec<Call> = (0..6)
+        .map(|_| {
+            let width = rng.between(line.saturating_sub(5), line + 3);
+            let width = if rng.one_in(3) {
+                rng.between(1, 6)
+            } else {
+                width
+            };
+            Call::EmitRoundtripDump(Settings {
+                width,
+                ..lending::good_settings(rng)
+            })
+        })
+        .collect();
+    on_deck(rng, format!("width{number}"), &deck, &calls)
+}
+
+/// A root, or the first of two flow items, an item, a value, a key, or a value in flow.
+fn placed(rng: &mut Rng, text: String) -> YamlNode {
+    let style = rng.one_of(&[
+        ScalarStyle::Plain,
+        ScalarStyle::SingleQuoted,
+        ScalarStyle::DoubleQuoted,
+        ScalarStyle::Folded,
+    ]);
+    let node = |kind| YamlNode::new(kind, Span::default());
+    let scalar = node(YamlNodeKind::Scalar(text, style));
+    let other = node(YamlNodeKind::Null);
+    let made = match rng.below(6) {
+        0 => scalar,
+        1 => node(YamlNodeKind::Sequence(vec![scalar.clone(), scalar])),
+        2 => node(YamlNodeKind::Sequence(vec![scalar])),
+        3 => node(YamlNodeKind::Mapping(vec![(other, scalar)])),
+        4 => node(YamlNodeKind::Mapping(vec![(scalar, other)])),
+        _ => node(YamlNodeKind::Mapping(vec![(other, scalar.clone())])),
+    };
+    let flow = rng.one_in(2);
+    made.with_style(if flow {
+        NodeStyle::Flow
+    } else {
+        NodeStyle::Block
+    })
 }
 
 /// Towers of depth 64 and 65, by each way down.
@@ -199,9 +250,9 @@ fn written_forms(
     start: usize,
     indent: usize,
 ) -> Vec<String> {
-    let folding = antt::settings(&calls::Settings {
+    let folding = antt::settings(&Settings {
         width: rng.between(1, 24),
-        ..calls::Settings::default()
+        ..Settings::default()
     });
     let mut forms = vec![
         format!("readDouble (quoted false {given})"),

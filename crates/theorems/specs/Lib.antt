@@ -1,0 +1,4 @@
+pub mod Around
+pub mod Like
+pub mod Still
+pub mod Renaming
