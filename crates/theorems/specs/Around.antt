@@ -118,3 +118,26 @@ pub data HandedBack : List Boundary → List Written → Type 0 where
   done : HandedBack [] []
   back : {x : Boundary} {xs : List Boundary} {ws : List Written} → Touched (x .node) → HandedBack xs ws → HandedBack (x ∷ xs) (writtenOf x ∷ ws)
   left : {x : Boundary} {xs : List Boundary} {ws : List Written} → ¬ Touched (x .node) → HandedBack xs ws → HandedBack (x ∷ xs) ws
+
+-- ---- how the files of two trees compare
+
+-- two includes are the same file: the same id, the same bytes, handed back or not alike
+pub record SameFile (x y : Boundary) : Type 0 where
+  pub id : x .id ≡ y .id
+  pub bytes : emitFile (x .node) ≡ emitFile (y .node)
+  pub handed : localModified (x .node) ≡ localModified (y .node)
+
+pub data SameFiles : List Boundary → List Boundary → Type 0 where
+  no-files : SameFiles [] []
+  more-files : {x y : Boundary} {xs ys : List Boundary} → SameFile x y → SameFiles xs ys → SameFiles (x ∷ xs) (y ∷ ys)
+
+-- all files but those of the node α and below it, in the one list, and of β, in the other, are the same, in the same order
+pub record SameBut (α β : Node) (bs cs : List Boundary) : Type 0 where
+  pub before₁ : List Boundary
+  pub after₁ : List Boundary
+  pub before₂ : List Boundary
+  pub after₂ : List Boundary
+  pub parts₁ : bs ≡ before₁ ++ (boundaries α ++ after₁)
+  pub parts₂ : cs ≡ before₂ ++ (boundaries β ++ after₂)
+  pub same-before : SameFiles before₁ before₂
+  pub same-after : SameFiles after₁ after₂
