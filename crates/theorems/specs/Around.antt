@@ -141,3 +141,31 @@ pub record SameBut (α β : Node) (bs cs : List Boundary) : Type 0 where
   pub parts₂ : cs ≡ before₂ ++ (boundaries β ++ after₂)
   pub same-before : SameFiles before₁ before₂
   pub same-after : SameFiles after₁ after₂
+
+-- two nodes as files, or as documents: the same bytes, changed or not alike
+pub record SameAsFile (x y : Node) : Type 0 where
+  pub bytes : emitFile x ≡ emitFile y
+  pub handed : localModified x ≡ localModified y
+
+-- P holds of all nodes that the path leads through, from the root down to the include and without it, each beside its partner
+module _ (P : Node → Node → Type 0) {α β : Node} where
+  unfoldable mutual
+    pub Along : {n m : Node} → Twin α β n m → Type 0
+    Along (here w) = Unit {0}
+    Along (inside u) = AlongUnder u
+
+    pub AlongUnder : {n m : Node} → Under α β n m → Type 0
+    AlongUnder (in-sequence {p = p} {q = q} {a = a} {b = b} {xs = xs} {ys = ys} t) = P (node p a b (sequence Block xs)) (node q a b (sequence Block ys)) × AlongItems t
+    AlongUnder (in-mapping {p = p} {q = q} {a = a} {b = b} {ps = ps} {qs = qs} t) = P (node p a b (mapping Block ps)) (node q a b (mapping Block qs)) × AlongPairs t
+
+    pub AlongItems : {xs ys : Nodes} → TwinItems α β xs ys → Type 0
+    AlongItems (this-item t h) = Along t
+    AlongItems (later-item h t) = AlongItems t
+
+    pub AlongPairs : {ps qs : Pairs} → TwinPairs α β ps qs → Type 0
+    AlongPairs (this-value k t h) = Along t
+    AlongPairs (later-pair k h t) = AlongPairs t
+
+  unfoldable pub AlongAll : {ns ms : List Node} → TwinAll α β ns ms → Type 0
+  AlongAll (this-document t h) = Along t
+  AlongAll (later-document h t) = AlongAll t

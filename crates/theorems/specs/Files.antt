@@ -136,13 +136,13 @@ pub join-files : {bs cs ds es : List Boundary} → SameFiles bs cs → SameFiles
 join-files no-files g = g
 join-files (more-files e f) g = more-files e (join-files f g)
 
-between : {n : Node} (lo hi : ℕ) → Rising lo n hi → Ordered n
+pub between : {n : Node} (lo hi : ℕ) → Rising lo n hi → Ordered n
 between lo hi h = record { low = lo; high = hi; rising = h }
 
 mutual
   unfolding boundaries Rising
 
-  kin-files : {swaps : Bool} {n m : Node} → Near AnyPlaces swaps n m → swaps ≡ false → (lo lo′ hi hi′ : ℕ) → Rising lo n hi → Rising lo′ m hi′
+  pub kin-files : {swaps : Bool} {n m : Node} → Near AnyPlaces swaps n m → swaps ≡ false → (lo lo′ hi hi′ : ℕ) → Rising lo n hi → Rising lo′ m hi′
       → SameFiles (boundaries n) (boundaries m)
   kin-files (swap r d c) e lo lo′ hi hi′ h k = absurd (true≢false e)
   kin-files (near r t) e lo lo′ hi hi′ h k = join-files (own-files t (between lo hi h) (between lo′ hi′ k)) (kin-filesIn t e _ _ hi hi′ (h .1) (k .1))
@@ -157,15 +157,22 @@ mutual
   kin-filesIn (block-sequence t) e lo lo′ hi hi′ h k = absurd (true≢false e)
   kin-filesIn (block-mapping t) e lo lo′ hi hi′ h k = absurd (true≢false e)
 
-  kin-filesItems : {swaps : Bool} {xs ys : Nodes} → NearItems AnyPlaces swaps xs ys → swaps ≡ false → (lo lo′ hi hi′ : ℕ) → RisingItems lo xs hi → RisingItems lo′ ys hi′
+  pub kin-filesItems : {swaps : Bool} {xs ys : Nodes} → NearItems AnyPlaces swaps xs ys → swaps ≡ false → (lo lo′ hi hi′ : ℕ) → RisingItems lo xs hi → RisingItems lo′ ys hi′
       → SameFiles (boundariesItems xs) (boundariesItems ys)
   kin-filesItems near-end e lo lo′ hi hi′ h k = no-files
   kin-filesItems (near-item t ts) e lo lo′ hi hi′ h k =
       join-files (kin-files t e lo lo′ (h .0) (k .0) (h .1) (k .1)) (kin-filesItems ts e (h .0) (k .0) hi hi′ (h .2) (k .2))
 
-  kin-filesPairs : {swaps : Bool} {ps qs : Pairs} → NearPairs AnyPlaces swaps ps qs → swaps ≡ false → (lo lo′ hi hi′ : ℕ) → RisingPairs lo ps hi → RisingPairs lo′ qs hi′
+  pub kin-filesPairs : {swaps : Bool} {ps qs : Pairs} → NearPairs AnyPlaces swaps ps qs → swaps ≡ false → (lo lo′ hi hi′ : ℕ) → RisingPairs lo ps hi → RisingPairs lo′ qs hi′
       → SameFiles (boundariesPairs ps) (boundariesPairs qs)
   kin-filesPairs near-close e lo lo′ hi hi′ h k = no-files
   kin-filesPairs (near-pair t u ts) e lo lo′ hi hi′ h k =
       join-files (kin-files t refl lo lo′ (h .0) (k .0) (h .2) (k .2))
       (join-files (kin-files u e (h .0) (k .0) (h .1) (k .1) (h .3) (k .3)) (kin-filesPairs ts e (h .1) (k .1) hi hi′ (h .4) (k .4)))
+
+pub kin-filesAll : {ns ms : List Node} → NearAll AnyPlaces false ns ms → (lo lo′ hi hi′ : ℕ) → RisingAll lo ns hi → RisingAll lo′ ms hi′
+    → SameFiles (boundariesAll ns) (boundariesAll ms)
+unfolding boundariesAll RisingAll
+kin-filesAll near-none lo lo′ hi hi′ h k = no-files
+kin-filesAll (near-more t ts) lo lo′ hi hi′ h k =
+    join-files (kin-files t refl lo lo′ (h .0) (k .0) (h .1) (k .1)) (kin-filesAll ts (h .0) (k .0) hi hi′ (h .2) (k .2))

@@ -5,3 +5,4 @@ pub mod Renaming
 pub mod Order
 pub mod Places
 pub mod Files
+pub mod Twin
