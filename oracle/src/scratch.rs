@@ -16,8 +16,9 @@ const MODULE: usize = 16;
 /// The crates of the scratch repository: one for each core.
 const CRATES: [&str; 2] = ["cases_a", "cases_b"];
 
-/// For each case a tree through all calls, a damaged deck through two, and, since they cost little, two scalars under widths that bite,
-/// strings around the edges of UTF-8, four texts through the leaves and two through the readers; in all a few program inputs, and towers.
+/// For each case a tree through all calls, a damaged deck through two, and, since they cost little, three small trees with much of a few
+/// things, two scalars under widths that bite, strings around the edges of UTF-8, four texts through the leaves and two through the
+/// readers; in all a few program inputs, and towers.
 pub fn draw(seed: u64, cases: usize) -> Vec<Theorem> {
     let rng = &mut Rng::new(seed);
     let mut made = theorems::towers(rng);
@@ -27,6 +28,9 @@ pub fn draw(seed: u64, cases: usize) -> Vec<Theorem> {
         made.push(theorems::tree(rng, number, nodes, LONGEST));
         made.push(theorems::damaged(rng, number, nodes, LONGEST));
         made.push(theorems::utf8(rng, number));
+        for part in 0..3 {
+            made.push(theorems::corner(rng, 3 * number + part, LONGEST));
+        }
         for part in 0..2 {
             made.push(theorems::width(rng, 2 * number + part, LONGEST));
         }

@@ -57,6 +57,16 @@ pub fn tree(rng: &mut Rng, number: usize, nodes: usize, longest: usize) -> Theor
     on_deck(rng, format!("tree{number}"), &deck, &calls)
 }
 
+/// A small tree in which a few chosen things occur at almost every node, through all six calls.
+pub fn corner(rng: &mut Rng, number: usize, longest: usize) -> Theorem {
+    let mood = trees::corner(rng);
+    let nodes = rng.between(2, 7);
+    let document = trees::grow(rng, &mood, nodes, longest);
+    let deck = deck::build(&[document], deck::Pooling::InOrder, rng);
+    let calls = lending::every_call(rng);
+    on_deck(rng, format!("corner{number}"), &deck, &calls)
+}
+
 /// A damaged deck through two calls: all documents, and one other.
 pub fn damaged(rng: &mut Rng, number: usize, nodes: usize, longest: usize) -> Theorem {
     let documents = trees::documents(rng, nodes, longest);
@@ -102,7 +112,8 @@ fn placed(rng: &mut Rng, text: String) -> YamlNode {
         ScalarStyle::Folded,
     ]);
     let node = |kind| YamlNode::new(kind, Span::default());
-    let scalar = node(YamlNodeKind::Scalar(text, style));
+    let mut scalar = node(YamlNodeKind::Scalar(text, style));
+    scalar.explicit_key = rng.one_in(2);
     let other = node(YamlNodeKind::Null);
     let made = match rng.below(6) {
         0 => scalar,

@@ -6,3 +6,5 @@ pub mod Order
 pub mod Places
 pub mod Files
 pub mod Twin
+pub mod Handed
+pub mod DeckOrder

@@ -71,7 +71,10 @@ impl Mood {
             [0, 5, 15, 30, 50, 90].as_slice(),
             [30, 50, 60, 70, 80, 95].as_slice(),
         ]);
-        let mut level = || rng.one_of(levels);
+        Mood::dialled(|| rng.one_of(levels))
+    }
+
+    fn dialled(mut level: impl FnMut() -> usize) -> Mood {
         Mood {
             hazard: level().max(20),
             tag: level(),
@@ -99,6 +102,42 @@ impl Mood {
             plain_style: level(),
         }
     }
+}
+
+/// A mood in which a few things occur at almost every node and all else is rare: small trees of it meet what seldom meets by chance.
+pub fn corner(rng: &mut Rng) -> Mood {
+    let mut mood = Mood::dialled(|| 4);
+    let dials = [
+        &mut mood.hazard,
+        &mut mood.tag,
+        &mut mood.anchor,
+        &mut mood.include,
+        &mut mood.head,
+        &mut mood.inline,
+        &mut mood.foot,
+        &mut mood.raw,
+        &mut mood.directive,
+        &mut mood.blank,
+        &mut mood.pad,
+        &mut mood.column,
+        &mut mood.changed,
+        &mut mood.inline_before_value,
+        &mut mood.compact,
+        &mut mood.synthetic,
+        &mut mood.explicit_key,
+        &mut mood.explicit_start,
+        &mut mood.leading_bom,
+        &mut mood.empty,
+        &mut mood.odd_key,
+        &mut mood.tall,
+        &mut mood.plain_style,
+    ];
+    for _ in 0..4 {
+        let chosen = rng.below(dials.len());
+        *dials[chosen] = 85;
+    }
+    mood.flow = rng.one_of(&[0, 0, 50, 90]);
+    mood
 }
 
 /// None to four documents, mostly one, of at most `nodes` nodes and texts of at most `longest` bytes.
