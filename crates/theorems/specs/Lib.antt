@@ -8,3 +8,5 @@ pub mod Files
 pub mod Twin
 pub mod Handed
 pub mod DeckOrder
+pub mod Answers
+pub mod Demand3

@@ -187,3 +187,9 @@ same-around t h k = record {
 -- the document that holds the include, by itself
 pub same-document : {α β : Node} {n m : Node} → Twin α β n m → Ordered n → Ordered m → (s : Settings) → emitOne s n ≡ emitOne s m
 same-document t h k s = same-emitOne (twin-near t) h k s
+
+-- and whether it is changed, unless the include is its root
+pub inside-local : {α β : Node} {n m : Node} → Under α β n m → localModified n ≡ localModified m
+unfolding localModified
+inside-local (in-sequence {b = b} t) = ap (λ (c : Bool). b .modified || c) (near-localIn (items-near t))
+inside-local (in-mapping {b = b} t) = ap (λ (c : Bool). b .modified || c) (near-localIn (pairs-near t))
