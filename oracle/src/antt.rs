@@ -16,7 +16,8 @@ use Rattle.definition.specs.Utf8.{wellFormed}
 use Rattle.definition.specs.Quote.{doubleBody, singleBody, singleCapable, singleQuotable}
 use Rattle.definition.specs.Fold.{fold, hasBreakable}
 use Rattle.definition.specs.Block.{useLiteralBlock, blockHeader, blockBody}
-use Rattle.definition.specs.Scalar.{quoted, quotedFolded}
+use Rattle.definition.specs.Settings.{plainSettings}
+use Rattle.definition.specs.Scalar.{quoted, quotedFolded, mustQuote}
 use Rattle.definition.specs.ReadBack.{readDouble, readSingle, readLiteral}
 use Rattle.definition.specs.Calls.{Lent, Outcome, outcome, emitRoundtrip, emitRoundtripWith, emitRoundtripAllWith, emitRoundtripDump, collectChangedIncludeChanges, callLocalModified}
 use Rattle.definition.specs.Program.{program}
@@ -48,13 +49,14 @@ record Leaves : Type 0 where
   quotable : Bool
   literal : Bool
   breakable : Bool
+  quotedInFlow : Bool
 
-abbrev leaves : Bytes → Bytes → Bytes → Bytes → Bytes → Bool → Bool → Bool → Bool → Leaves
-leaves d s h b f c q l k = record { double = d; single = s; header = h; body = b; folded = f; capable = c; quotable = q; literal = l; breakable = k }
+abbrev leaves : Bytes → Bytes → Bytes → Bytes → Bytes → Bool → Bool → Bool → Bool → Bool → Leaves
+leaves d s h b f c q l k m = record { double = d; single = s; header = h; body = b; folded = f; capable = c; quotable = q; literal = l; breakable = k; quotedInFlow = m }
 
 -- of a text: a start column, an indent, a width
 leavesOf : Bytes → ℕ → ℕ → ℕ → Leaves
-leavesOf t c i w = leaves (doubleBody t) (singleBody t) (blockHeader 124 t) (blockBody i t) (fold (record { weight = λ b. 1; indent = i; width = w }) c t) (singleCapable t) (singleQuotable t false) (useLiteralBlock t) (hasBreakable t)
+leavesOf t c i w = leaves (doubleBody t) (singleBody t) (blockHeader 124 t) (blockBody i t) (fold (record { weight = λ b. 1; indent = i; width = w }) c t) (singleCapable t) (singleQuotable t false) (useLiteralBlock t) (hasBreakable t) (mustQuote plainSettings true false t 0)
 
 "
 }

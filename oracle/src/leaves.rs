@@ -1,5 +1,8 @@
 //! The leaves of the Rust, which are private to its crate, as plain functions.
 
+use crate::roundtrip::ast::{NodeStyle, YamlNode, YamlNodeKind};
+use crate::roundtrip::emit;
+use crate::scanner::{ScalarStyle, Span};
 use crate::{emit_util, encode};
 
 pub fn is_non_printable(character: char) -> bool {
@@ -53,4 +56,13 @@ pub fn folded(content: &str, start_column: usize, cont_indent: usize, width: usi
     let mut written = vec![b'x'; start_column];
     emit_util::push_folded(&mut written, content, cont_indent, width);
     written.split_off(start_column)
+}
+
+/// Whether a plain scalar is quoted as the one item of a flow sequence: the tests for that are private to emit.rs.
+pub fn quoted_in_flow(value: &str) -> bool {
+    let scalar = YamlNodeKind::Scalar(value.to_owned(), ScalarStyle::Plain);
+    let items = vec![YamlNode::new(scalar, Span::default())];
+    let sequence = YamlNode::new(YamlNodeKind::Sequence(items), Span::default());
+    let written = emit::emit_roundtrip(&sequence.with_style(NodeStyle::Flow));
+    written != format!("[{value}]\n").into_bytes()
 }

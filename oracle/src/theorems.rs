@@ -240,7 +240,7 @@ pub fn read_back(rng: &mut Rng, number: usize, longest: usize) -> Theorem {
 
 fn leaves_of(text: &str, start: usize, indent: usize, width: usize) -> String {
     format!(
-        "leaves {} {} {} {} {} {} {} {} {}",
+        "leaves {} {} {} {} {} {} {} {} {} {}",
         antt::bytes(leaves::double_quoted_body(text).as_bytes()),
         antt::bytes(leaves::single_quoted_body(text).as_bytes()),
         antt::bytes(&leaves::block_scalar_header(text, b'|')),
@@ -249,7 +249,8 @@ fn leaves_of(text: &str, start: usize, indent: usize, width: usize) -> String {
         leaves::single_capable(text),
         leaves::single_quotable(text, false),
         leaves::use_literal_block(text),
-        leaves::has_breakable_space(text)
+        leaves::has_breakable_space(text),
+        leaves::quoted_in_flow(text)
     )
 }
 

@@ -15,9 +15,9 @@ const PIECES: [&str; 72] = [
 ];
 
 #[rustfmt::skip]
-const WORDS: [&str; 16] = [
+const WORDS: [&str; 17] = [
     "a", "b", "of", "to", "it's", "tile", "angle", "origin", "\"q\"", "x\\y", "\u{e9}t\u{e9}", "\u{1f600}", "0.5", "a:b",
-    "[c]", "engine",
+    "[c]", "engine", "~",
 ];
 
 const FRONTS: [&str; 9] = [
