@@ -113,12 +113,6 @@ mutual
     by-value : {k v : Node} {ps : Pairs} → T (not (included (kept v))) → Touched v → TouchedPairs (pair k v ps)
     next-pair : {k v : Node} {ps : Pairs} → TouchedPairs ps → TouchedPairs (pair k v ps)
 
--- of a list of includes, in its order, one file for each that is touched and none for any other
-pub data HandedBack : List Boundary → List Written → Type 0 where
-  done : HandedBack [] []
-  back : {x : Boundary} {xs : List Boundary} {ws : List Written} → Touched (x .node) → HandedBack xs ws → HandedBack (x ∷ xs) (writtenOf x ∷ ws)
-  left : {x : Boundary} {xs : List Boundary} {ws : List Written} → ¬ Touched (x .node) → HandedBack xs ws → HandedBack (x ∷ xs) ws
-
 -- ---- how the files of two trees compare
 
 -- two includes are the same file: the same id, the same bytes, handed back or not alike

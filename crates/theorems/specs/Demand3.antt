@@ -4,7 +4,7 @@
 --     same-path         nor those of any file on the path down to it, nor whether each of them, and the document, is handed back
 --     same-modified     nor the answer of `local_modified`, unless the include is its document's root
 --     same-files        all other files that are handed back are the same, in the same order
---     handed-exactly    a file is handed back, once per include and in tree order, exactly when it is touched
+--     handed-exactly    a file with an id is handed back, once per include and in tree order, exactly when its include is touched
 --     handed-only       and no other list is so
 --     modified-exactly  `local_modified` answers yes exactly when the document is touched
 --     only-outcome      no two outcomes meet a call's definition
@@ -27,11 +27,12 @@ use Rattle.definition.specs.Calls.{Lent, Outcome, Call, emitRoundtrip, emitRoun
 use Rattle.definition.specs.declared.NullStyle.{NullStyle}
 use Rattle.definition.specs.declared.Settings.{Settings}
 use Rattle.definition.specs.declared.Cursor.{Cursor}
-use Rattle.theorems.specs.Around.{Near, NearAll, near-none, near-more, Twin, here, inside, Under, TwinAll, this-document, later-document, SameAsFile, Along, AlongUnder, AlongAll, Touched, HandedBack}
+use Rattle.theorems.specs.Around.{Near, NearAll, near-none, near-more, Twin, here, inside, Under, TwinAll, this-document, later-document, SameAsFile, Along, AlongUnder, AlongAll, Touched}
 use Rattle.theorems.specs.Order.{Ordered, OrderedAll, ordered-first}
 use Rattle.theorems.specs.DeckOrder.{read-ordered}
 use Rattle.theorems.specs.Twin.{SameAround, same-around, same-document, inside-local}
-use Rattle.theorems.specs.Handed.{SameHanded, same-handed, handed-back, handed-unique, changed-exactly}
+use Rattle.theorems.specs.Handed.{SameHanded, same-handed, changed-exactly}
+use Rattle.theorems.specs.Listed.{Exactly, collect-exactly, exactly-one}
 use Rattle.theorems.specs.Answers.{bytesBack, filesBack, Answered, One, the-one, one-map, all-back, one-back, modified-back, files-back}
 
 -- both decks are well formed, and their trees agree except in what one include brought in
@@ -121,12 +122,12 @@ module _ (x y : Lent) (w : TwinDecks x y) where
 -- ---- the second sentence
 
 module _ (x : Lent) {ns : List Node} {c : Cursor} (q : readDeck (x .deck) (x .pool) ≡ got ns c) where
-  pub handed-exactly : Answered (outcome collectChangedIncludeChanges x) → HandedBack (boundariesAll ns) (filesBack (outcome collectChangedIncludeChanges x))
+  pub handed-exactly : Answered (outcome collectChangedIncludeChanges x) → Exactly ns (filesBack (outcome collectChangedIncludeChanges x))
   unfolding outcome
-  handed-exactly h = rw (files-back x q h) (handed-back ns)
+  handed-exactly h = rw (files-back x q h) (collect-exactly ns (read-ordered (x .deck) (x .pool) q))
 
-  pub handed-only : Answered (outcome collectChangedIncludeChanges x) → (ws : List Written) → HandedBack (boundariesAll ns) ws → ws ≡ filesBack (outcome collectChangedIncludeChanges x)
-  handed-only h ws b = handed-unique b (handed-exactly h)
+  pub handed-only : Answered (outcome collectChangedIncludeChanges x) → (ws : List Written) → Exactly ns ws → ws ≡ filesBack (outcome collectChangedIncludeChanges x)
+  handed-only h ws b = exactly-one ns ws _ b (handed-exactly h)
 
   pub modified-exactly : Answered (outcome callLocalModified x) → One (λ n. T (outcome callLocalModified x .modified) ↔ Touched n) ns
   unfolding outcome

@@ -1,5 +1,4 @@
--- Demand 3, second sentence, over trees: what is handed back, against a predicate of its own and not the changed test. And the files of two
--- lists of includes that are the same but for one.
+-- The changed test against a predicate of its own, and the files that are handed back of two lists of includes that are the same but for one.
 use mathlib.Core.Path.{_≡_, refl, ap, sym, subst, _∙_}
 use mathlib.Core.Logic.{_↔_}
 use Prim.Native.Nat.{ℕ}
@@ -10,7 +9,7 @@ use Rattle.definition.specs.Base.{if_then_else_}
 use Rattle.definition.specs.Tree.{Kept, Brought, Node, Kind, Nodes, Pairs, node, null, scalar, alias, sequence, mapping, end, item, close, pair, kept}
 use Rattle.definition.specs.Walk.{included}
 use Rattle.definition.specs.Change.{localModified, localIn, localItems, localPairs, Boundary, boundaries, boundariesAll, Written, writtenOf, changed, collect}
-use Rattle.theorems.specs.Around.{Touched, on, below, TouchedIn, through-items, through-pairs, TouchedItems, by-item, next-item, TouchedPairs, by-key, by-value, next-pair, HandedBack, done, back, left, SameFile, SameFiles, no-files, more-files, SameBut}
+use Rattle.theorems.specs.Around.{Touched, on, below, TouchedIn, through-items, through-pairs, TouchedItems, by-item, next-item, TouchedPairs, by-key, by-value, next-pair, SameFile, SameFiles, no-files, more-files, SameBut}
 use Rattle.theorems.specs.Files.{inner}
 
 -- ---- tests that pass
@@ -101,31 +100,6 @@ mutual
 -- as a key
 pub changed-exactly : (n : Node) → T (localModified n) ↔ Touched n
 changed-exactly n = (local-touched n, touched-local)
-
--- ---- the list
-
-handed : (bs : List Boundary) → HandedBack bs (changed bs)
-unfolding changed
-handed [] = done
-handed (x ∷ xs) = go (localModified (x .node)) (λ t. local-touched (x .node) t) (λ t. touched-local t) (handed xs)
-  where
-    go : (b : Bool) → (T b → Touched (x .node)) → (Touched (x .node) → T b) → HandedBack xs (changed xs)
-        → HandedBack (x ∷ xs) (if b then writtenOf x ∷ changed xs else changed xs)
-    go true f g h = back (f tt) h
-    go false f g h = left g h
-
--- once per include and in tree order, exactly those that are touched
-pub handed-back : (ns : List Node) → HandedBack (boundariesAll ns) (collect ns)
-unfolding collect
-handed-back ns = handed (boundariesAll ns)
-
--- and no other list is so
-pub handed-unique : {bs : List Boundary} {ws vs : List Written} → HandedBack bs ws → HandedBack bs vs → ws ≡ vs
-handed-unique done done = refl
-handed-unique (back {x = x} t h) (back u k) = ap (λ (r : List Written). writtenOf x ∷ r) (handed-unique h k)
-handed-unique (back t h) (left u k) = absurd (u t)
-handed-unique (left t h) (back u k) = absurd (t u)
-handed-unique (left t h) (left u k) = handed-unique h k
 
 -- ---- two lists of includes that are the same but for one and those below it
 

@@ -10,3 +10,4 @@ pub mod Handed
 pub mod DeckOrder
 pub mod Answers
 pub mod Demand3
+pub mod Listed
