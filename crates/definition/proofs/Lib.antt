@@ -1,2 +1,3 @@
 -- Theorems about the definitions of specs/.
 mod Sample
+mod Easy
