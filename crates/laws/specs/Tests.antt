@@ -7,6 +7,11 @@ use lib.Dec.{leb}
 use borrow.Author.Tests.{leb-true, le-leb, lt-leb}
 use Rattle.definition.specs.Base.{if_then_else_, within, any}
 
+-- what holds of both choices, by the test
+pub by-test : {A : Type 0} (P : A → Type 0) (t : Bool) {x y : A} → (t ≡ true → P x) → (t ≡ false → P y) → P (if t then x else y)
+by-test P true p q = p refl
+by-test P false p q = q refl
+
 pub both-left : (a b : Bool) → (a && b) ≡ true → a ≡ true
 both-left true b e = refl
 both-left false b e = absurd (false≢true e)
