@@ -177,6 +177,9 @@ body-clear (suc k) [] = Every.none
 body-clear (suc k) (a ∷ s) = body-clear k s
 body-clear zero (a ∷ s) = every-append (piece-clear a (getD s 0 0) (getD s 1 0)) (body-clear (doubleMore a (getD s 0 0) (getD s 1 0)) s)
 
+pub double-clear : (v : Bytes) → wellFormed v ≡ true → Clear (doubleBody v)
+double-clear v w = rw (double-same v w) (body-clear 0 v)
+
 -- ---- between quotes
 
 quoted-reads : (v : Bytes) → wellFormed v ≡ true → reads doubleStep isClosed opening (quoted false v) ≡ some v
@@ -189,4 +192,4 @@ quoted-reads v w =
 pub double-reads : (o : Settings) (key : Bool) (v : Bytes) (col : ℕ) → wellFormed v ≡ true → readDouble (styledQuotes o key false v col) ≡ some v
 unfolding readDouble
 double-reads o key v col w =
-    styled-read doubleStep isClosed opening o key false v col (unfold bodyOf in rw (double-same v w) (body-clear 0 v)) ∙ quoted-reads v w
+    styled-read doubleStep isClosed opening o key false v col (unfold bodyOf in double-clear v w) ∙ quoted-reads v w
