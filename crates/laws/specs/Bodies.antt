@@ -102,7 +102,7 @@ two-print a b n l h x e = high-print n (omega arith) ∙ go (eqb a 0xc2) refl
     go true g = let k : a ≡ 0xc2 = eqb-true a 0xc2 g in let m : n ≡ b = omega arith in rw (small, m) (order (eqb b 0x85) (within 0x80 0x9f b))
     go false g = let k = eqb-false a 0xc2 g in rw (small, above-it 0x80 0x9f n (omega arith)) (beyond (eqb n 0x85))
 
-wide-print : (n : ℕ) → 0xa0 ≤ n → nonPrintable n ≡ within 0xfffe 0xffff n
+pub wide-print : (n : ℕ) → 0xa0 ≤ n → nonPrintable n ≡ within 0xfffe 0xffff n
 wide-print n h = high-print n (omega arith) ∙ rw (ne-eqb n 0x85 (λ e. omega arith), above-it 0x80 0x9f n (omega arith))
 
 three-high : (a b c : ℕ) → 0xe0 ≤ a → Next b → (a ≡ 0xe0 → 0xa0 ≤ b) → 0x800 ≤ (a - 0xe0) * 4096 + (b - 0x80) * 64 + (c - 0x80)

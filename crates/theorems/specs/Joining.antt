@@ -36,7 +36,7 @@ unfolding isJson
 fits-json b break = refl
 fits-json b (byte h) = simp (le-leb 0x20 b h, or-true)
 
-breaks-same : {s : Bytes} → Every (λ b. eqb b CR ≡ false) s → breaks false s ≡ s
+pub breaks-same : {s : Bytes} → Every (λ b. eqb b CR ≡ false) s → breaks false s ≡ s
 unfolding breaks
 breaks-same none = refl
 breaks-same (more {x = b} {s = s} e es) = rw (e, breaks-same es) (go (eqb b LF) refl)

@@ -4,3 +4,6 @@ pub mod ReadSingle
 pub mod FoldLines
 pub mod FoldBound
 pub mod FoldQuoted
+pub mod LiteralText
+pub mod LiteralLines
+pub mod ReadLiteral
