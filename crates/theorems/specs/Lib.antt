@@ -1,9 +1,11 @@
+pub mod Reading
+pub mod Witnesses
 pub mod Joining
 pub mod ReadDouble
 pub mod ReadSingle
+pub mod ReadLiteral
+pub mod LiteralText
+pub mod LiteralLines
 pub mod FoldLines
 pub mod FoldBound
 pub mod FoldQuoted
-pub mod LiteralText
-pub mod LiteralLines
-pub mod ReadLiteral
