@@ -1,15 +1,15 @@
 -- Well-formed text is made of whole characters, each of one to four bytes (the Unicode Standard, table 3-7).
-use Prim.Native.Nat.{ℕ, zero, suc, _+_, _-_, _*_, _≤_, _<_}
+use Prim.Native.Nat.{ℕ, zero, suc, _≤_, _<_}
 use native.Mathlib.Omega.{arith}
-use mathlib.Core.Path.{_≡_, refl, sym, ap, _∙_}
-use mathlib.Core.Bool.{Bool, true, false, _||_, false≢true}
-use mathlib.Core.List.{List, [], _∷_, _++_, append-assoc}
-use lib.Dec.{eqb, leb, ltb}
-use borrow.Author.Tests.{ltb-true, ltb-false, eqb-true, eqb-false, eq-eqb, ne-eqb, lt-ltb, le-ltb}
+use mathlib.Core.Path.{_≡_, refl, ap, _∙_}
+use mathlib.Core.Bool.{Bool, true, false, false≢true}
+use mathlib.Core.List.{List, [], _∷_, _++_}
+use lib.Dec.{eqb, ltb}
+use borrow.Author.Tests.{ltb-true, ltb-false, le-ltb}
 use Rattle.definition.specs.Base.{Bytes, if_then_else_, within}
 use Rattle.definition.specs.Utf8.{isFirst, due, low, high, scan, wellFormed}
-use Rattle.definition.specs.Char.{goesOn, Cut, cut, chars, number}
-use Rattle.laws.specs.Tests.{within-is, is-within, below-it, above-it, Every, none, more}
+use Rattle.definition.specs.Char.{goesOn, Cut, cut, chars}
+use Rattle.laws.specs.Tests.{by-test, within-is, is-within, below-it, above-it, Every, none, more}
 
 -- a byte that goes on with a character
 pub record Next (b : ℕ) : Type 0 where
@@ -41,21 +41,11 @@ middle b e = next-of 0x80 0xbf b (omega arith) (omega arith) e
 
 low-at : (a : ℕ) → 0x80 ≤ low a
 unfolding low
-low-at a = go (eqb a 0xe0) (eqb a 0xf0)
-  where
-    go : (t u : Bool) → 0x80 ≤ (if t then 0xa0 else if u then 0x90 else 0x80)
-    go true u = omega arith
-    go false true = omega arith
-    go false false = omega arith
+low-at a = by-test (λ (n : ℕ). 0x80 ≤ n) (eqb a 0xe0) (λ e. omega arith) λ e. by-test (λ (n : ℕ). 0x80 ≤ n) (eqb a 0xf0) (λ e. omega arith) (λ e. omega arith)
 
 high-at : (a : ℕ) → high a ≤ 0xbf
 unfolding high
-high-at a = go (eqb a 0xed) (eqb a 0xf4)
-  where
-    go : (t u : Bool) → (if t then 0x9f else if u then 0x8f else 0xbf) ≤ 0xbf
-    go true u = omega arith
-    go false true = omega arith
-    go false false = omega arith
+high-at a = by-test (λ (n : ℕ). n ≤ 0xbf) (eqb a 0xed) (λ e. omega arith) λ e. by-test (λ (n : ℕ). n ≤ 0xbf) (eqb a 0xf4) (λ e. omega arith) (λ e. omega arith)
 
 first-is : (a : ℕ) → isFirst a ≡ true → 0x80 ≤ a → (0xc2 ≤ a) × (a ≤ 0xf4)
 unfolding isFirst

@@ -13,6 +13,7 @@ use Rattle.definition.specs.Quote.{escaped, digit, hex2, hex4}
 use Rattle.definition.specs.Fold.{Folding, fold}
 use Rattle.definition.specs.Scalar.{bodyOf}
 use Rattle.definition.specs.Opened.{opened}
+use Rattle.laws.specs.Tests.{by-test}
 use Rattle.laws.specs.Computed.{all, apply}
 use Rattle.laws.specs.Pieces.{Quote, isC1, isNon, doublePiece, doubleMore, singlePiece, double, single, quoteBy}
 use Rattle.laws.specs.Bodies.{body-same}
@@ -45,30 +46,21 @@ ascii-solid a h e =
 
 digit-solid : (d : ℕ) → eqb (digit d) SP ≡ false
 unfolding digit
-digit-solid d = go (ltb d 10)
-  where
-    go : (t : Bool) → eqb (if t then 48 + d else 87 + d) SP ≡ false
-    go true = ne-eqb (48 + d) SP (λ e. omega arith)
-    go false = ne-eqb (87 + d) SP (λ e. omega arith)
+digit-solid d =
+    by-test (λ (n : ℕ). eqb n SP ≡ false) (ltb d 10) (λ e. ne-eqb (48 + d) SP (λ q. omega arith)) (λ e. ne-eqb (87 + d) SP (λ q. omega arith))
 
 double-solid : (a b c : ℕ) → eqb a SP ≡ false → Solid (doublePiece a b c)
 unfolding doublePiece hex2 hex4
-double-solid a b c e = go (ltb a 0x80) refl (isC1 a b) (isNon a b c)
-  where
-    go : (t : Bool) → ltb a 0x80 ≡ t → (u v : Bool)
-        → Solid (if t then escaped a (a ∷ []) else if u then BACKSLASH ∷ 120 ∷ hex2 b else if v then BACKSLASH ∷ 117 ∷ hex4 (0xff40 + c) else a ∷ [])
-    go true h u v = ascii-solid a (ltb-true a 0x80 h) e
-    go false h true v = cons refl (cons refl (cons (digit-solid _) (one (digit-solid _))))
-    go false h false true = cons refl (cons refl (cons (digit-solid _) (cons (digit-solid _) (cons (digit-solid _) (one (digit-solid _))))))
-    go false h false false = one e
+double-solid a b c e =
+    by-test Solid (ltb a 0x80) (λ h. ascii-solid a (ltb-true a 0x80 h) e) λ h.
+    by-test Solid (isC1 a b) (λ h. cons refl (cons refl (cons (digit-solid _) (one (digit-solid _))))) λ h.
+    by-test Solid (isNon a b c)
+    (λ h. cons refl (cons refl (cons (digit-solid _) (cons (digit-solid _) (cons (digit-solid _) (one (digit-solid _)))))))
+    (λ h. one e)
 
 single-solid : (a b c : ℕ) → eqb a SP ≡ false → Solid (singlePiece a b c)
 unfolding singlePiece
-single-solid a b c e = go (eqb a APOSTROPHE)
-  where
-    go : (t : Bool) → Solid (if t then APOSTROPHE ∷ APOSTROPHE ∷ [] else a ∷ [])
-    go true = cons refl (one refl)
-    go false = one e
+single-solid a b c e = by-test Solid (eqb a APOSTROPHE) (λ h. cons refl (one refl)) (λ h. one e)
 
 pub lawful : (single : Bool) → Lawful (quoteBy single)
 unfolding opened singlePiece doublePiece doubleMore

@@ -1,12 +1,13 @@
 -- A quoted body by the bytes at a place, with no characters cut: what is written for the byte a where b and c stand after it (0 past the
 -- end), and how many bytes after a that speaks for.
 use Prim.Native.Nat.{ℕ, zero, suc, _+_}
-use mathlib.Core.Bool.{Bool, true, false, not, _&&_}
+use mathlib.Core.Bool.{Bool, true, false, not, _&&_, _||_}
 use mathlib.Core.List.{List, [], _∷_, _++_}
 use lib.ListN.{getD}
 use lib.Dec.{eqb, ltb}
 use Rattle.definition.specs.Base.{Bytes, if_then_else_, within}
 use Rattle.definition.specs.Ascii.{APOSTROPHE, BACKSLASH}
+use Rattle.definition.specs.Char.{nonPrintable}
 use Rattle.definition.specs.Quote.{escaped, hex2, hex4}
 
 -- a way to quote
@@ -27,6 +28,10 @@ isC1 a b = eqb a 0xc2 && not (eqb b 0x85) && within 0x80 0x9f b
 -- U+FFFE and U+FFFF: EF BF BE and EF BF BF
 unfoldable pub isNon : ℕ → ℕ → ℕ → Bool
 isNon a b c = eqb a 0xef && eqb b 0xbf && within 0xbe 0xbf c
+
+-- a character that is not printable begins here
+unfoldable pub nonPrintableAt : ℕ → ℕ → ℕ → Bool
+nonPrintableAt a b c = if ltb a 0x80 then nonPrintable a else isC1 a b || isNon a b c
 
 unfoldable pub doublePiece : ℕ → ℕ → ℕ → Bytes
 doublePiece a b c =

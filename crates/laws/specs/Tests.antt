@@ -46,11 +46,7 @@ below-it l h n p = rw (lt-leb l n p)
 
 pub above-it : (l h n : ℕ) → h < n → within l h n ≡ false
 unfolding within
-above-it l h n p = go (leb l n)
-  where
-    go : (t : Bool) → (if t then leb n h else false) ≡ false
-    go true = lt-leb n h p
-    go false = refl
+above-it l h n p = by-test (λ (t : Bool). t ≡ false) (leb l n) (λ e. lt-leb n h p) (λ e. refl)
 
 -- every element fits
 pub data Every {A : Type 0} (P : A → Type 0) : List A → Type 0 where

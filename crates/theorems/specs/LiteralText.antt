@@ -1,23 +1,23 @@
 -- Which texts a literal block may hold: those of whole characters that section 5.1 allows. Indenting such a text leaves it so.
-use Prim.Native.Nat.{ℕ, zero, suc, _+_, _-_, _*_, _≤_, _<_}
+use Prim.Native.Nat.{ℕ, zero, suc, _≤_, _<_}
 use native.Mathlib.Omega.{arith}
 use mathlib.Core.Path.{_≡_, refl, sym, ap, _∙_}
-use mathlib.Core.Bool.{Bool, true, false, not, _&&_, _||_, false≢true, true≢false, or-true}
+use mathlib.Core.Bool.{Bool, true, false, not, _&&_, _||_, true≢false, or-true}
 use mathlib.Core.List.{List, [], _∷_, _++_}
 use lib.ListN.{replicate}
-use lib.Dec.{eqb, leb, ltb}
-use borrow.Author.Tests.{ltb-true, ltb-false, eqb-true, eqb-false, ne-eqb, eq-eqb, not-true, not-false}
-use Rattle.definition.specs.Base.{Bytes, if_then_else_, within, any, has, spaces}
-use Rattle.definition.specs.Ascii.{TAB, LF, CR, SP}
+use lib.Dec.{eqb, ltb}
+use borrow.Author.Tests.{ltb-true, ltb-false, eqb-true, ne-eqb, not-true}
+use Rattle.definition.specs.Base.{Bytes, within, any, has, spaces}
+use Rattle.definition.specs.Ascii.{LF, CR, SP}
 use Rattle.definition.specs.Utf8.{wellFormed}
 use Rattle.definition.specs.Char.{goesOn, Cut, cut, chars, number, nonPrintable}
 use Rattle.definition.specs.Block.{leadsBlank, useLiteralBlock, indented}
 use Rattle.definition.specs.ReadBack.{isPrintable, isLiteral}
-use Rattle.laws.specs.Tests.{by-test, neither-left, neither-right, is-within, both-left, both-right, below-it, Every, none, more, every-append, every-as, every-also, any-none, none-any}
+use Rattle.laws.specs.Tests.{neither-left, neither-right, is-within, both-left, both-right, below-it, Every, none, more, every-append, every-as, every-also, any-none, none-any}
 use Rattle.definition.specs.Opened.{opened}
 use Rattle.laws.specs.Computed.{all}
-use Rattle.laws.specs.Characters.{Next, Char, one, two, three, four, Whole, whole-text, together, uncut}
-use Rattle.laws.specs.Bodies.{wide-print}
+use Rattle.laws.specs.Characters.{Char, one, two, three, four, whole-text, together, uncut}
+use Rattle.laws.specs.Numbers.{Scalar, scalar, wide-print}
 
 -- a character that a literal block may hold, and no CR
 pub record Good (c : Bytes) : Type 0 where
@@ -30,36 +30,6 @@ pub record Fine (s : Bytes) : Type 0 where
   pub each : Every Good (cut s .own)
 
 -- ---- printable numbers
-
--- the number of a character: no surrogate, and at most U+10FFFF
-record Scalar (n : ℕ) : Type 0 where
-  gap : 0xd800 ≤ n → 0xe000 ≤ n
-  most : n ≤ 0x10ffff
-
-scalar : {c : Bytes} → Char c → Scalar (number c)
-unfolding number
-scalar (one h) = record { gap = λ g. absurd (omega arith); most = omega arith }
-scalar (two l h x) = record { gap = λ g. absurd (omega arith); most = omega arith }
-scalar (three {a = a} {b = b} {c = c} l h x u v y) = record { gap = λ g. go g (eqb a 0xed) refl; most = omega arith }
-  where
-    go : 0xd800 ≤ (a - 0xe0) * 4096 + (b - 0x80) * 64 + (c - 0x80) → (t : Bool) → eqb a 0xed ≡ t → 0xe000 ≤ (a - 0xe0) * 4096 + (b - 0x80) * 64 + (c - 0x80)
-    go g true e = let k : a ≡ 0xed = eqb-true a 0xed e in let m = v k in absurd (omega arith)
-    go g false e = let k = eqb-false a 0xed e in omega arith
-scalar (four {a = a} {b = b} {c = c} {d = d} l h x u v y w) = record { gap = λ g. go; most = top (eqb a 0xf4) refl }
-  where
-    n : ℕ
-    n = (a - 0xf0) * 262144 + (b - 0x80) * 4096 + (c - 0x80) * 64 + (d - 0x80)
-
-    go : 0xe000 ≤ n
-    go = first (eqb a 0xf0) refl
-      where
-        first : (t : Bool) → eqb a 0xf0 ≡ t → 0xe000 ≤ n
-        first true e = let k : a ≡ 0xf0 = eqb-true a 0xf0 e in let m = u k in omega arith
-        first false e = let k = eqb-false a 0xf0 e in omega arith
-
-    top : (t : Bool) → eqb a 0xf4 ≡ t → n ≤ 0x10ffff
-    top true e = let k : a ≡ 0xf4 = eqb-true a 0xf4 e in let m = v k in omega arith
-    top false e = let k = eqb-false a 0xf4 e in omega arith
 
 printable : (n : ℕ) → Scalar n → nonPrintable n ≡ false → isPrintable n ≡ true
 printable n s e = low (ltb n 0xa0) refl

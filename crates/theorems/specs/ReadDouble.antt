@@ -20,7 +20,8 @@ use Rattle.definition.specs.declared.Settings.{Settings}
 use Rattle.laws.specs.Tests.{by-test, Every, every-append, any-none, every-as}
 use Rattle.laws.specs.Computed.{all}
 use Rattle.laws.specs.Pieces.{body, isC1, isNon, doublePiece, doubleMore, double}
-use Rattle.laws.specs.Bodies.{c1-is, non-is, double-same}
+use Rattle.laws.specs.Numbers.{c1-is, non-is}
+use Rattle.laws.specs.Bodies.{double-same}
 use Rattle.theorems.specs.Joining.{Clear, styled-read}
 
 pub behind-append : (x y : Bytes) (r : Option Bytes) → behind x (behind y r) ≡ behind (x ++ y) r
