@@ -1,9 +1,9 @@
 -- Folding changes nothing but breakable spaces, and of content without a line break every line keeps the bound.
 use Prim.Native.Nat.{ℕ, zero, suc, _+_, _≤_}
 use native.Mathlib.Omega.{arith}
-use mathlib.Core.Path.{_≡_, refl, sym, ap, _∙_}
+use mathlib.Core.Path.{_≡_, refl, ap, _∙_}
 use mathlib.Core.Bool.{Bool, true, false, false≢true}
-use mathlib.Core.List.{List, [], _∷_, _++_}
+use mathlib.Core.List.{[], _∷_, _++_}
 use lib.ListN.{getD, drop}
 use lib.Dec.{eqb, ltb}
 use borrow.Author.Tests.{ltb-false}
@@ -12,7 +12,7 @@ use Rattle.definition.specs.Ascii.{LF, SP}
 use Rattle.definition.specs.Fold.{Weight, Folding, size, breakable, breakableIn, hasBreakable, ahead, folded, fold}
 use Rattle.laws.specs.Tests.{by-test, Every, none, more}
 use Rattle.laws.specs.Folded.{no-break, break-space, break-by}
-use Rattle.theorems.specs.FoldLines.{Lines, lines, OneLine, LineFits, Bounded, Way, done, on, cut}
+use Rattle.theorems.specs.FoldLines.{lines, OneLine, LineFits, Bounded, Way, done, on, cut}
 
 -- FOLDING CHANGES NOTHING BUT BREAKABLE SPACES
 way : (f : Folding) (after : Bool) (col : ℕ) (s : Bytes) → Way f after s (folded f after col s)
@@ -21,9 +21,9 @@ way f after col [] = done
 way f after col (b ∷ s) =
     by-test (Way f after (b ∷ s)) (breakable after b s)
     (λ e.
-      by-test (Way f after (b ∷ s)) (ltb (f .width) (col + 1 + ahead (f .weight) true s))
-      (λ u. cut e (way f true (f .indent) s))
-      (λ u. rw (break-space after b s e) (on (way f true (col + 1) s))))
+    by-test (Way f after (b ∷ s)) (ltb (f .width) (col + 1 + ahead (f .weight) true s))
+    (λ u. cut e (way f true (f .indent) s))
+    (λ u. rw (break-space after b s e) (on (way f true (col + 1) s))))
     (λ e. on (way f (eqb b SP) (col + f .weight b) s))
 
 pub fold-way : (f : Folding) (start : ℕ) (s : Bytes) → Way f true s (fold f start s)

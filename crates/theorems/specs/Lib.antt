@@ -1,5 +1,6 @@
 pub mod Reading
 pub mod Witnesses
+pub mod Machines
 pub mod Joining
 pub mod ReadDouble
 pub mod ReadSingle

@@ -1,19 +1,19 @@
 -- The lines of a literal block, read: their indent is found and taken away, and chomping gives the value back.
-use Prim.Native.Nat.{ℕ, zero, suc, _+_, _≤_}
+use Prim.Native.Nat.{ℕ, zero, suc, _+_}
 use native.Mathlib.Omega.{arith}
 use mathlib.Core.Path.{_≡_, refl, sym, ap, _∙_}
-use mathlib.Core.Bool.{Bool, true, false, not, _&&_, _||_, false≢true, true≢false}
-use mathlib.Core.List.{List, [], _∷_, _++_, append-assoc, append-nil}
-use mathlib.Core.Option.{Option, none, some}
+use mathlib.Core.Bool.{Bool, true, false, _||_, false≢true, true≢false}
+use mathlib.Core.List.{[], _∷_, _++_, append-assoc, append-nil}
+use mathlib.Core.Option.{Option, some}
 use lib.ListN.{replicate}
-use lib.Dec.{eqb, ltb}
+use lib.Dec.{eqb}
 use borrow.Author.Tests.{eqb-true, le-ltb}
 use Rattle.definition.specs.Base.{Bytes, if_then_else_, isNil, spaces}
 use Rattle.definition.specs.Ascii.{LF, SP, TAB}
 use Rattle.definition.specs.Block.{leadsBlank, allBreaks, trailing, trimmed, indented, beyond}
-use Rattle.definition.specs.ReadBack.{Taken, give, behind, taken, reads, Chomp, strip, clip, keep, stripped, chomped, indentOf, literalStep, literalLines}
-use Rattle.laws.specs.Trim.{breaks-all, trimmed-whole}
-use Rattle.theorems.specs.ReadDouble.{behind-append, behind-nothing}
+use Rattle.definition.specs.ReadBack.{behind, taken, reads, Chomp, strip, clip, keep, stripped, chomped, indentOf, literalStep, literalLines}
+use Rattle.laws.specs.Trim.{trimmed-whole}
+use Rattle.theorems.specs.Machines.{behind-append, behind-nothing}
 
 nil-of : (x : Bytes) → isNil x ≡ true → x ≡ []
 unfolding isNil
@@ -119,7 +119,7 @@ module _ (n : ℕ) where
           × (go 0 ((if t then LF ∷ indented n true s else b ∷ indented n false s) ++ z) ≡ r)
       choose true e ih =
           let next : (k : ℕ) → go k (LF ∷ (indented n true s ++ z)) ≡ r = λ k.
-              break-read k (indented n true s ++ z) ∙ rw (ih .0, eqb-true b LF e) (behind-append (LF ∷ []) (s ++ LF ∷ []) (go n z)) in
+          break-read k (indented n true s ++ z) ∙ rw (ih .0, eqb-true b LF e) (behind-append (LF ∷ []) (s ++ LF ∷ []) (go n z)) in
           (next n, next 0)
       choose false e ih =
           let on : go 0 (b ∷ (indented n false s ++ z)) ≡ r = byte-read b (indented n false s ++ z) e ∙ rw (ih .1) (behind-append (b ∷ []) (s ++ LF ∷ []) (go n z)) in

@@ -10,7 +10,7 @@ use borrow.Author.Tests.{ltb-true, ltb-false, eqb-true, ne-eqb, not-true}
 use Rattle.definition.specs.Base.{Bytes, within, any, has, spaces}
 use Rattle.definition.specs.Ascii.{LF, CR, SP}
 use Rattle.definition.specs.Utf8.{wellFormed}
-use Rattle.definition.specs.Char.{goesOn, Cut, cut, chars, number, nonPrintable}
+use Rattle.definition.specs.Char.{goesOn, cut, chars, number, nonPrintable}
 use Rattle.definition.specs.Block.{leadsBlank, useLiteralBlock, indented}
 use Rattle.definition.specs.ReadBack.{isPrintable, isLiteral}
 use Rattle.laws.specs.Tests.{neither-left, neither-right, is-within, both-left, both-right, below-it, Every, none, more, every-append, every-as, every-also, any-none, none-any}

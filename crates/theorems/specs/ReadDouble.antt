@@ -2,19 +2,19 @@
 use Prim.Native.Nat.{ℕ, zero, suc, _+_, _*_, _/_, _%_, _≤_, _<_}
 use native.Mathlib.Omega.{arith}
 use mathlib.Core.Path.{_≡_, refl, sym, ap, _∙_}
-use mathlib.Core.Bool.{Bool, true, false, not, _&&_, _||_, false≢true}
-use mathlib.Core.List.{List, [], _∷_, _++_, append-assoc, append-nil}
+use mathlib.Core.Bool.{Bool, true, false, not}
+use mathlib.Core.List.{[], _∷_, _++_, append-assoc, append-nil}
 use mathlib.Core.Option.{Option, none, some}
 use lib.ListN.{getD, take, drop, take-append-drop}
 use lib.Dec.{eqb, leb, ltb}
 use borrow.Author.Tests.{ltb-true, ltb-false, eqb-true, ne-eqb, lt-ltb, le-ltb, not-true, leb-false}
-use Rattle.definition.specs.Base.{Bytes, if_then_else_, within, any}
+use Rattle.definition.specs.Base.{Bytes, if_then_else_, any}
 use Rattle.definition.specs.Ascii.{TAB, LF, CR, QUOTE, BACKSLASH}
 use Rattle.definition.specs.Utf8.{wellFormed}
 use Rattle.definition.specs.Char.{nonPrintable}
 use Rattle.definition.specs.Quote.{escaped, doubleBody, digit, hex2, hex4}
 use Rattle.definition.specs.Scalar.{bodyOf, quoted, quoteOf, styledQuotes}
-use Rattle.definition.specs.ReadBack.{Taken, give, behind, taken, reads, Double, opening, text, escape, digits, closed, utf8, worth, doubleText, doubleEscape, doubleDigit, doubleStep, isClosed, readDouble}
+use Rattle.definition.specs.ReadBack.{behind, taken, reads, opening, text, utf8, worth, doubleText, doubleEscape, doubleDigit, doubleStep, isClosed, readDouble}
 use Rattle.definition.specs.Opened.{opened}
 use Rattle.definition.specs.declared.Settings.{Settings}
 use Rattle.laws.specs.Tests.{by-test, Every, every-append, any-none, every-as}
@@ -22,17 +22,8 @@ use Rattle.laws.specs.Computed.{all}
 use Rattle.laws.specs.Pieces.{body, isC1, isNon, doublePiece, doubleMore, double}
 use Rattle.laws.specs.Numbers.{c1-is, non-is}
 use Rattle.laws.specs.Bodies.{double-same}
+use Rattle.theorems.specs.Machines.{behind-append, behind-nothing}
 use Rattle.theorems.specs.Joining.{Clear, styled-read}
-
-pub behind-append : (x y : Bytes) (r : Option Bytes) → behind x (behind y r) ≡ behind (x ++ y) r
-unfolding behind
-behind-append x y none = refl
-behind-append x y (some u) = ap (λ (l : Bytes). some l) (sym (append-assoc x y u))
-
-pub behind-nothing : (r : Option Bytes) → behind [] r ≡ r
-unfolding behind
-behind-nothing none = refl
-behind-nothing (some u) = refl
 
 -- the reader in the text
 abbrev go : Bytes → Option Bytes

@@ -1,21 +1,21 @@
 -- A literal block reads back where `use_literal_block` holds and the value has no U+FEFF, with or without a comment on the header's line.
-use Prim.Native.Nat.{ℕ, zero, suc, _+_, _≤_, max}
+use Prim.Native.Nat.{ℕ, zero, suc, max}
 use native.Mathlib.Omega.{arith}
-use mathlib.Core.Path.{_≡_, refl, sym, ap, _∙_}
-use mathlib.Core.Bool.{Bool, true, false, not, _&&_, _||_, false≢true, true≢false}
-use mathlib.Core.List.{List, [], _∷_, _++_, append-assoc}
+use mathlib.Core.Path.{_≡_, refl, ap, _∙_}
+use mathlib.Core.Bool.{Bool, true, false, not, _&&_, _||_}
+use mathlib.Core.List.{[], _∷_, _++_, append-assoc}
 use mathlib.Core.Option.{Option, none, some}
 use lib.ListN.{replicate}
 use lib.Dec.{eqb}
 use borrow.Author.Tests.{not-true, not-false}
 use Rattle.definition.specs.Base.{Bytes, if_then_else_, isNil, any, has, spaces}
-use Rattle.definition.specs.Ascii.{LF, CR, SP, TAB, '#', '+', '-', '|'}
+use Rattle.definition.specs.Ascii.{LF, CR, SP, '#', '+', '-', '|'}
 use Rattle.definition.specs.Utf8.{wellFormed}
-use Rattle.definition.specs.Char.{cut, chars, number, nonPrintable}
+use Rattle.definition.specs.Char.{chars, number, nonPrintable}
 use Rattle.definition.specs.Block.{leadsBlank, useLiteralBlock, trailing, trimmed, chomping, blockHeader, indented, beyond, blockBody}
 use Rattle.definition.specs.Tree.{Inline}
 use Rattle.definition.specs.Pen.{hashed, inlineText}
-use Rattle.definition.specs.ReadBack.{breaks, isLiteral, Chomp, strip, clip, keep, chomped, indentOf, literalLines, chompedOf, afterHeader, afterBar, fromBar, readLiteral}
+use Rattle.definition.specs.ReadBack.{isLiteral, Chomp, strip, clip, keep, indentOf, literalLines, chompedOf, afterHeader, afterBar, fromBar, readLiteral}
 use Rattle.definition.specs.Opened.{opened}
 use Rattle.laws.specs.Tests.{by-test, both-left, both-right, neither-left, neither-right, Every, every-as, any-none}
 use Rattle.laws.specs.Trim.{trimmed-whole}
@@ -63,7 +63,7 @@ hash-note k {y} f l =
     record {
       fine = spaces-fine (suc k) (byte-fine '#' (omega arith) (unfold opened in refl) refl f);
       passed = λ c z.
-      unfold afterHeader in ap (afterHeader c true false) (append-assoc (spaces k) ('#' ∷ y) (LF ∷ z)) ∙ spaces-passed c k (y ++ LF ∷ z) ∙ comment-passed c l z;
+          unfold afterHeader in ap (afterHeader c true false) (append-assoc (spaces k) ('#' ∷ y) (LF ∷ z)) ∙ spaces-passed c k (y ++ LF ∷ z) ∙ comment-passed c l z;
       clips = λ z. unfold afterBar in refl;
     }
 

@@ -1,23 +1,23 @@
 -- A single-quoted text reads back where no byte of it is below 20.
-use Prim.Native.Nat.{ℕ, _≤_}
+use Prim.Native.Nat.{ℕ}
 use native.Mathlib.Omega.{arith}
-use mathlib.Core.Path.{_≡_, refl, sym, ap, _∙_}
-use mathlib.Core.Bool.{Bool, true, false, not, _&&_, _||_}
-use mathlib.Core.List.{List, [], _∷_, _++_, append-nil}
+use mathlib.Core.Path.{_≡_, sym, ap, _∙_}
+use mathlib.Core.Bool.{Bool, true, not, _&&_, _||_}
+use mathlib.Core.List.{[], _∷_, _++_, append-nil}
 use mathlib.Core.Option.{Option, none, some}
 use lib.Dec.{eqb, ltb}
 use borrow.Author.Tests.{eqb-true, ltb-false, not-true}
-use Rattle.definition.specs.Base.{Bytes, if_then_else_, any, has}
+use Rattle.definition.specs.Base.{Bytes, any, has}
 use Rattle.definition.specs.Ascii.{LF, CR, APOSTROPHE}
 use Rattle.definition.specs.Char.{chars, number, nonPrintable}
 use Rattle.definition.specs.Quote.{singleBody, singleCapable, singleQuotable}
 use Rattle.definition.specs.Scalar.{bodyOf, quoted, quoteOf, styledQuotes}
-use Rattle.definition.specs.ReadBack.{Taken, give, behind, taken, reads, Single, opening′, text′, apostrophe, singleStep, isApostrophe, readSingle}
+use Rattle.definition.specs.ReadBack.{behind, taken, reads, opening′, text′, singleStep, isApostrophe, readSingle}
 use Rattle.definition.specs.Opened.{opened}
 use Rattle.definition.specs.declared.Settings.{Settings}
 use Rattle.laws.specs.Tests.{by-test, both-left, both-right, neither-left, Every, every-as, any-none}
 use Rattle.theorems.specs.Joining.{Clear, styled-read}
-use Rattle.theorems.specs.ReadDouble.{behind-append, behind-nothing}
+use Rattle.theorems.specs.Machines.{behind-append, behind-nothing}
 
 -- the reader in the text
 abbrev go : Bytes → Option Bytes
@@ -54,6 +54,6 @@ unfolding singleQuotable singleCapable
 quotable-clear v double e =
     let capable = both-right (not double && not (has APOSTROPHE v)) (singleCapable v) e in
     let c0 = both-right (not (has LF v) && not (has CR v)) (not (any (λ b. ltb b 0x20 || eqb b 0x7f) v))
-        (both-left (not (has LF v) && not (has CR v) && not (any (λ b. ltb b 0x20 || eqb b 0x7f) v)) (not (any (λ c. nonPrintable (number c)) (chars v))) capable) in
+    (both-left (not (has LF v) && not (has CR v) && not (any (λ b. ltb b 0x20 || eqb b 0x7f) v)) (not (any (λ c. nonPrintable (number c)) (chars v))) capable) in
     every-as (λ b g. ltb-false b 0x20 (neither-left (ltb b 0x20) (eqb b 0x7f) g))
     (any-none (λ b. ltb b 0x20 || eqb b 0x7f) v (not-true _ c0))

@@ -24,8 +24,8 @@
 use Prim.Native.Nat.{ℕ, _≤_}
 use mathlib.Core.Path.{_≡_, refl}
 use mathlib.Core.Bool.{Bool, true, false, _&&_}
-use mathlib.Core.List.{List, [], _∷_, _++_}
-use mathlib.Core.Option.{Option, some}
+use mathlib.Core.List.{_++_}
+use mathlib.Core.Option.{some}
 use lib.Dec.{eqb}
 use Rattle.definition.specs.Base.{Bytes, if_then_else_, any}
 use Rattle.definition.specs.Ascii.{SP, '|'}
@@ -47,7 +47,7 @@ use Rattle.theorems.specs.ReadSingle.{single-reads, quotable-clear}
 use Rattle.theorems.specs.ReadLiteral.{fitsComment, literal-reads, commented-reads}
 use Rattle.theorems.specs.FoldLines.{OneLine, Bounded, Way}
 use Rattle.theorems.specs.FoldBound.{fold-way, fold-bounded}
-use Rattle.theorems.specs.FoldQuoted.{Unbroken, Folds, double-bounded, single-bounded, quoted-folds}
+use Rattle.theorems.specs.FoldQuoted.{Unbroken, FoldedQuotes, clear-line, double-bounded, single-bounded, quoted-folds}
 
 -- 1
 pub double-back : (s : Settings) (flow key : Bool) (t : Bytes) (i col : ℕ) → wellFormed t ≡ true → readDouble (scalarText s flow key t Double i col) ≡ some t
@@ -111,15 +111,24 @@ pub single-keeps-width : (f : Folding) → f .weight SP ≡ 1 → (start : ℕ) 
 single-keeps-width = single-bounded
 
 -- 10
-styled-folds : (s : Settings) (key single : Bool) (t : Bytes) (col : ℕ) → folds s key ≡ true → Unbroken single t → Folds s single t col (styledQuotes s key single t col)
+styled-folds : (s : Settings) (key single : Bool) (t : Bytes) (col : ℕ) → folds s key ≡ true → Unbroken single t → FoldedQuotes s single t col (styledQuotes s key single t col)
 unfolding styledQuotes
 styled-folds s key single t col f h = rw f (quoted-folds s single t col h)
 
 pub double-folds : (s : Settings) (flow key : Bool) (t : Bytes) (i col : ℕ) → folds s key ≡ true → wellFormed t ≡ true
-    → Folds s false t col (scalarText s flow key t Double i col)
+    → FoldedQuotes s false t col (scalarText s flow key t Double i col)
 unfolding scalarText
 double-folds s flow key t i col f w = styled-folds s key false t col f w
 
-pub single-folds : (s : Settings) (flow key : Bool) (t : Bytes) (i col : ℕ) → folds s key ≡ true → OneLine t → Folds s true t col (scalarText s flow key t Single i col)
+pub single-folds : (s : Settings) (flow key : Bool) (t : Bytes) (i col : ℕ) → folds s key ≡ true → OneLine t → FoldedQuotes s true t col (scalarText s flow key t Single i col)
 unfolding scalarText
 single-folds s flow key t i col f h = styled-folds s key true t col f h
+
+pub plain-folds : (s : Settings) (flow key : Bool) (t : Bytes) (i col : ℕ) → folds s key ≡ true → wellFormed t ≡ true → mustQuote s flow key t col ≡ true
+    → FoldedQuotes s (s .«single_quotes» && singleQuotable t false) t col (scalarText s flow key t Plain i col)
+unfolding scalarText ownQuotes
+plain-folds s flow key t i col f w q = rw q (styled-folds s key (s .«single_quotes» && singleQuotable t false) t col f (go (s .«single_quotes» && singleQuotable t false) refl))
+  where
+    go : (b : Bool) → (s .«single_quotes» && singleQuotable t false) ≡ b → Unbroken b t
+    go true e = clear-line (quotable-clear t false (both-right (s .«single_quotes») (singleQuotable t false) e))
+    go false e = w
