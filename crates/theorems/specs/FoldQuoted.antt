@@ -16,7 +16,7 @@ use Rattle.definition.specs.Settings.{weightOf}
 use Rattle.definition.specs.Scalar.{quoteOf, bodyOf, quotedFolded}
 use Rattle.definition.specs.declared.Settings.{Settings}
 use Rattle.laws.specs.Tests.{by-test, none, more, every-as}
-use Rattle.theorems.specs.Joining.{Clear}
+use Rattle.theorems.specs.ReadQuoted.{Clear}
 use Rattle.theorems.specs.ReadDouble.{double-clear}
 use Rattle.theorems.specs.FoldLines.{OneLine, Bounded, Way}
 use Rattle.theorems.specs.FoldBound.{fold-way, fold-bounded}

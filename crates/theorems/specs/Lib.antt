@@ -1,7 +1,8 @@
+-- quoted and literal text: it reads back, and its lines keep the width
 pub mod Reading
-pub mod Witnesses
-pub mod Machines
-pub mod Joining
+pub mod ReadWitnesses
+pub mod ReadPieces
+pub mod ReadQuoted
 pub mod ReadDouble
 pub mod ReadSingle
 pub mod ReadLiteral

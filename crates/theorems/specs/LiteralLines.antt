@@ -13,7 +13,7 @@ use Rattle.definition.specs.Ascii.{LF, SP, TAB}
 use Rattle.definition.specs.Block.{leadsBlank, allBreaks, trailing, trimmed, indented, beyond}
 use Rattle.definition.specs.ReadBack.{behind, taken, reads, Chomp, strip, clip, keep, stripped, chomped, indentOf, literalStep, literalLines}
 use Rattle.laws.specs.Trim.{trimmed-whole}
-use Rattle.theorems.specs.Machines.{behind-append, behind-nothing}
+use Rattle.theorems.specs.ReadPieces.{behind-append, behind-nothing}
 
 nil-of : (x : Bytes) → isNil x ≡ true → x ≡ []
 unfolding isNil

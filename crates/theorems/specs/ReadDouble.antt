@@ -22,8 +22,8 @@ use Rattle.laws.specs.Computed.{all}
 use Rattle.laws.specs.Pieces.{body, isC1, isNon, doublePiece, doubleMore, double}
 use Rattle.laws.specs.Numbers.{c1-is, non-is}
 use Rattle.laws.specs.Bodies.{double-same}
-use Rattle.theorems.specs.Machines.{behind-append, behind-nothing}
-use Rattle.theorems.specs.Joining.{Clear, styled-read}
+use Rattle.theorems.specs.ReadPieces.{behind-append, behind-nothing}
+use Rattle.theorems.specs.ReadQuoted.{Clear, styled-read}
 
 -- the reader in the text
 abbrev go : Bytes → Option Bytes

@@ -1,13 +1,13 @@
 -- A literal block reads back where `use_literal_block` holds and the value has no U+FEFF, with or without a comment on the header's line.
 use Prim.Native.Nat.{ℕ, zero, suc, max}
 use native.Mathlib.Omega.{arith}
-use mathlib.Core.Path.{_≡_, refl, ap, _∙_}
+use mathlib.Core.Path.{_≡_, refl, sym, ap, _∙_}
 use mathlib.Core.Bool.{Bool, true, false, not, _&&_, _||_}
 use mathlib.Core.List.{[], _∷_, _++_, append-assoc}
 use mathlib.Core.Option.{Option, none, some}
 use lib.ListN.{replicate}
 use lib.Dec.{eqb}
-use borrow.Author.Tests.{not-true, not-false}
+use borrow.Author.Tests.{not-true, eqb-false, ne-eqb}
 use Rattle.definition.specs.Base.{Bytes, if_then_else_, isNil, any, has, spaces}
 use Rattle.definition.specs.Ascii.{LF, CR, SP, '#', '+', '-', '|'}
 use Rattle.definition.specs.Utf8.{wellFormed}
@@ -15,12 +15,12 @@ use Rattle.definition.specs.Char.{chars, number, nonPrintable}
 use Rattle.definition.specs.Block.{leadsBlank, useLiteralBlock, trailing, trimmed, chomping, blockHeader, indented, beyond, blockBody}
 use Rattle.definition.specs.Tree.{Inline}
 use Rattle.definition.specs.Pen.{hashed, inlineText}
-use Rattle.definition.specs.ReadBack.{isLiteral, Chomp, strip, clip, keep, indentOf, literalLines, chompedOf, afterHeader, afterBar, fromBar, readLiteral}
+use Rattle.definition.specs.ReadBack.{Chomp, strip, clip, keep, indentOf, literalLines, chompedOf, afterHeader, afterBar, fromBar, readLiteral}
 use Rattle.definition.specs.Opened.{opened}
-use Rattle.laws.specs.Tests.{by-test, both-left, both-right, neither-left, neither-right, Every, every-as, any-none}
+use Rattle.laws.specs.Tests.{by-test, both-left, both-right, Every, every-as, any-none}
 use Rattle.laws.specs.Trim.{trimmed-whole}
-use Rattle.theorems.specs.Joining.{breaks-same}
-use Rattle.theorems.specs.LiteralText.{Fine, byte-fine, lf-fine, nil-fine, spaces-fine, breaks-fine, fine-append, fine-first, indented-fine, text-free, no-cr, all-literal, fine-of, usable-fine}
+use Rattle.theorems.specs.ReadQuoted.{breaks-same}
+use Rattle.theorems.specs.LiteralText.{Fine, byte-fine, lf-fine, nil-fine, spaces-fine, breaks-fine, fine-append, fine-first, indented-fine, no-cr, all-literal, allowed, allowed-fine, usable-allowed}
 use Rattle.theorems.specs.LiteralLines.{block-read, chompOf, block-chomped}
 
 -- what follows the header's line break, read
@@ -38,9 +38,9 @@ no-note = record { fine = nil-fine; passed = λ c z. unfold afterHeader in refl;
 
 -- ---- a comment
 
--- its text is made of characters that a comment may hold, and no line break is among them
+-- its text is well-formed, of characters that a literal block may hold, and has no line break
 unfoldable pub fitsComment : Bytes → Bool
-fitsComment t = wellFormed t && not (any (λ c. not (isLiteral (number c)) || eqb (number c) LF || eqb (number c) CR) (chars t))
+fitsComment t = allowed t && not (has LF t)
 
 comment-passed : (c : Chomp) {x : Bytes} → Every (λ b. eqb b LF ≡ false) x → (z : Bytes) → afterHeader c true true (x ++ LF ∷ z) ≡ under c z
 unfolding afterHeader
@@ -74,23 +74,13 @@ comment-note c e = rw (one-more (c .spaces) .1) (go (isNil (c .text)))
     t : Bytes
     t = c .text
 
-    bad : Bytes → Bool
-    bad c = not (isLiteral (number c)) || eqb (number c) LF || eqb (number c) CR
-
-    each : Every (λ c. bad c ≡ false) (chars t)
-    each = any-none bad (chars t) (not-true (any bad (chars t)) (both-right (wellFormed t) (not (any bad (chars t))) e))
-
-    first : (c : Bytes) → bad c ≡ false → (not (isLiteral (number c)) || eqb (number c) LF) ≡ false
-    first c g = neither-left (not (isLiteral (number c)) || eqb (number c) LF) (eqb (number c) CR) g
-
     f : Fine t
-    f =
-        fine-of t (both-left (wellFormed t) (not (any bad (chars t))) e)
-        (every-as (λ c g. not-false (isLiteral (number c)) (neither-left (not (isLiteral (number c))) (eqb (number c) LF) (first c g))) each)
-        (every-as (λ c g. neither-right (not (isLiteral (number c)) || eqb (number c) LF) (eqb (number c) CR) g) each)
+    f = allowed-fine t (both-left (allowed t) (not (has LF t)) e)
 
     l : Every (λ b. eqb b LF ≡ false) t
-    l = text-free LF (omega arith) f (unfold chars in every-as (λ c g. neither-right (not (isLiteral (number c))) (eqb (number c) LF) (first c g)) each)
+    l =
+        every-as (λ b g. ne-eqb b LF (λ q. eqb-false LF b g (sym q)))
+        (unfold has in any-none (eqb LF) t (not-true (has LF t) (both-right (allowed t) (not (has LF t)) e)))
 
     go : (u : Bool) → Note (spaces (suc (one-more (c .spaces) .0)) ++ ('#' ∷ (if u then [] else SP ∷ t)))
     go true = hash-note (one-more (c .spaces) .0) nil-fine Every.none
@@ -134,15 +124,30 @@ noted-reads i v {x} m f h =
     rw (breaks-same (no-cr all), all-literal all)
     (header-passed m (trailing v) (trimmed v) z ∙ rw (block-read i v h) (ap (λ (l : Bytes). some l) (block-chomped v)))
 
+-- ---- which values a literal block holds
+
+-- the first line that is not empty begins with no space or tab, and the text is well-formed, of characters that a literal block may hold
+unfoldable pub fitsLiteral : Bytes → Bool
+fitsLiteral t = allowed t && not (leadsBlank t)
+
+-- what `use_literal_block` takes, but for U+FEFF
+pub usable-fits : (t : Bytes) → wellFormed t ≡ true → useLiteralBlock t ≡ true → any (λ c. eqb (number c) 0xfeff) (chars t) ≡ false → fitsLiteral t ≡ true
+unfolding fitsLiteral useLiteralBlock
+usable-fits t w u m =
+    rw (
+      usable-allowed t w u m,
+      both-right (has LF t && not (any (λ c. eqb (number c) CR || nonPrintable (number c)) (chars t))) (not (leadsBlank t)) u,
+    )
+
 -- A LITERAL BLOCK READS BACK
-leads-not : (v : Bytes) → useLiteralBlock v ≡ true → leadsBlank v ≡ false
-unfolding useLiteralBlock
-leads-not v u = not-true (leadsBlank v) (both-right (has LF v && not (any (λ c. eqb (number c) CR || nonPrintable (number c)) (chars v))) (not (leadsBlank v)) u)
+module _ (i : ℕ) (t : Bytes) (h : fitsLiteral t ≡ true) where
+  noted : {x : Bytes} → Note x → readLiteral (blockHeader '|' t ++ (x ++ blockBody i t)) ≡ some t
+  unfolding fitsLiteral
+  noted m =
+      noted-reads i t m (allowed-fine t (both-left (allowed t) (not (leadsBlank t)) h)) (not-true (leadsBlank t) (both-right (allowed t) (not (leadsBlank t)) h))
 
-module _ (i : ℕ) (v : Bytes) (w : wellFormed v ≡ true) (u : useLiteralBlock v ≡ true) (m : any (λ c. eqb (number c) 0xfeff) (chars v) ≡ false) where
-  pub literal-reads : readLiteral (blockHeader '|' v ++ blockBody i v) ≡ some v
-  literal-reads = noted-reads i v no-note (usable-fine v w u m) (leads-not v u)
+  pub literal-reads : readLiteral (blockHeader '|' t ++ blockBody i t) ≡ some t
+  literal-reads = noted no-note
 
-  pub commented-reads : (c : Inline) → fitsComment (c .text) ≡ true → readLiteral (blockHeader '|' v ++ inlineText c ++ blockBody i v) ≡ some v
-  commented-reads c e =
-      rw (append-assoc (blockHeader '|' v) (inlineText c) (blockBody i v)) (noted-reads i v (comment-note c e) (usable-fine v w u m) (leads-not v u))
+  pub commented-reads : (c : Inline) → fitsComment (c .text) ≡ true → readLiteral (blockHeader '|' t ++ inlineText c ++ blockBody i t) ≡ some t
+  commented-reads c e = rw (append-assoc (blockHeader '|' t) (inlineText c) (blockBody i t)) (noted (comment-note c e))

@@ -16,8 +16,8 @@ use Rattle.definition.specs.ReadBack.{behind, taken, reads, opening′, text′
 use Rattle.definition.specs.Opened.{opened}
 use Rattle.definition.specs.declared.Settings.{Settings}
 use Rattle.laws.specs.Tests.{by-test, both-left, both-right, neither-left, Every, every-as, any-none}
-use Rattle.theorems.specs.Joining.{Clear, styled-read}
-use Rattle.theorems.specs.Machines.{behind-append, behind-nothing}
+use Rattle.theorems.specs.ReadQuoted.{Clear, styled-read}
+use Rattle.theorems.specs.ReadPieces.{behind-append, behind-nothing}
 
 -- the reader in the text
 abbrev go : Bytes → Option Bytes

@@ -2,25 +2,31 @@
 --
 -- `scalarText s flow key t y i col` is what the emitter's leaf step writes for a scalar: s the settings, flow and key whether it stands in
 -- flow and in a key, t its value, y its style, i the column of a block body, col the column where it begins. A reader of ReadBack gives
--- `some v` where it reads the whole text as the value v, and `none` where it refuses. Values are well-formed UTF-8.
+-- `some v` where it reads the whole text, quotes or header included, as the value v, and `none` where it refuses it. Values are
+-- well-formed UTF-8.
 --
 -- Read-back. For all settings, in flow or not, in a key or not, at any columns, folded or not:
 --   1. in double-quoted style every value reads back;
---   2. in single-quoted style every value without a byte below 20 does;
+--   2. in single-quoted style every value without a byte below hexadecimal 20 does;
 --   3. a plain scalar that the emitter quotes does: by the reader of single quotes where the settings ask for them and the value can
 --      stand in them, else by that of double quotes;
 --   4. a literal or folded scalar in flow does, by the reader of double quotes;
 --   5. a literal one outside flow does, where `use_literal_block` holds and no character is U+FEFF;
---   6. so it does with a comment on the header's line.
--- Document 01 promises 5 from body column 1 on; it holds of column 0 too, since the reader finds the indent by itself.
+--   6. so it does with a comment on the header's line, where the comment is well-formed text of characters that a literal block may hold
+--      (`fitsComment`) and has no line break.
+-- Document 01 promises 5 from body column 1 on; it holds of column 0 too, since the reader finds the indent by itself. Nor need the value
+-- have a line break: that its first line that is not empty begins with no space or tab, and that a literal block may hold its characters,
+-- is enough (`fitsLiteral`).
 --
--- Folding. Over any weight of a byte, where a space weighs 1:
+-- Folding, over any weight of a byte where a space weighs 1. FoldLines says what a text's lines are, when they are `Bounded`, and what a
+-- `Way` to fold a text is:
 --   7. a folded text is the text with some breakable spaces replaced by a line break and the indent;
 --   8. of content without a line break, on every line that keeps a breakable space the content ends at or before the width;
 --   9. so it is with every double-quoted body, and with single-quoted ones of values without a line break;
---  10. and so with the bytes that the emitter writes in quotes where it folds. The closing quote is not counted.
+--  10. and so with the bytes that the emitter writes in quotes where it folds: they are the quote, content of which 7 and 8 hold, and the
+--      quote again (`FoldedQuotes`). The closing quote is not counted.
 --
--- Witnesses has the smallest values outside these premises, with what the readers make of them.
+-- ReadWitnesses has the smallest values outside these premises, with what the readers make of them.
 use Prim.Native.Nat.{ℕ, _≤_}
 use mathlib.Core.Path.{_≡_, refl}
 use mathlib.Core.Bool.{Bool, true, false, _&&_}
@@ -44,7 +50,7 @@ use Rattle.definition.specs.declared.Style.the-variants.{Plain, Single, Double,
 use Rattle.laws.specs.Tests.{Every, both-right}
 use Rattle.theorems.specs.ReadDouble.{double-reads}
 use Rattle.theorems.specs.ReadSingle.{single-reads, quotable-clear}
-use Rattle.theorems.specs.ReadLiteral.{fitsComment, literal-reads, commented-reads}
+use Rattle.theorems.specs.ReadLiteral.{fitsComment, fitsLiteral, usable-fits, literal-reads, commented-reads}
 use Rattle.theorems.specs.FoldLines.{OneLine, Bounded, Way}
 use Rattle.theorems.specs.FoldBound.{fold-way, fold-bounded}
 use Rattle.theorems.specs.FoldQuoted.{Unbroken, FoldedQuotes, clear-line, double-bounded, single-bounded, quoted-folds}
@@ -88,12 +94,16 @@ folded-in-flow-back s key t i col w = flow-back s t w
 pub literal-back : (s : Settings) (key : Bool) (t : Bytes) (i col : ℕ) → wellFormed t ≡ true → useLiteralBlock t ≡ true → any (λ c. eqb (number c) 0xfeff) (chars t) ≡ false
     → readLiteral (scalarText s false key t Literal i col) ≡ some t
 unfolding scalarText blockText markerOf
-literal-back s key t i col w u m = literal-reads i t w u m
+literal-back s key t i col w u m = literal-reads i t (usable-fits t w u m)
+
+pub fitting-literal-back : (s : Settings) (key : Bool) (t : Bytes) (i col : ℕ) → fitsLiteral t ≡ true → readLiteral (scalarText s false key t Literal i col) ≡ some t
+unfolding scalarText blockText markerOf
+fitting-literal-back s key t i col h = literal-reads i t h
 
 -- 6
 pub commented-literal-back : (i : ℕ) (t : Bytes) (c : Inline) → wellFormed t ≡ true → useLiteralBlock t ≡ true → any (λ c. eqb (number c) 0xfeff) (chars t) ≡ false
     → fitsComment (c .text) ≡ true → readLiteral (blockHeader '|' t ++ inlineText c ++ blockBody i t) ≡ some t
-commented-literal-back i t c w u m h = commented-reads i t w u m c h
+commented-literal-back i t c w u m h = commented-reads i t (usable-fits t w u m) c h
 
 -- 7
 pub fold-changes-spaces : (f : Folding) (start : ℕ) (t : Bytes) → Way f true t (fold f start t)
