@@ -1,0 +1,10 @@
+pub mod Tests
+pub mod Computed
+pub mod Characters
+pub mod Pieces
+pub mod Numbers
+pub mod Bodies
+pub mod Places
+pub mod Folded
+pub mod Lawful
+pub mod Trim
