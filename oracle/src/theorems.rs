@@ -60,7 +60,7 @@ pub fn tree(rng: &mut Rng, number: usize, nodes: usize, longest: usize) -> Theor
 /// A small tree in which a few chosen things occur at almost every node, through all six calls.
 pub fn corner(rng: &mut Rng, number: usize, longest: usize) -> Theorem {
     let mood = trees::corner(rng);
-    let nodes = rng.between(2, 7);
+    let nodes = rng.between(2, 9);
     let document = trees::grow(rng, &mood, nodes, longest);
     let deck = deck::build(&[document], deck::Pooling::InOrder, rng);
     let calls = lending::every_call(rng);

@@ -1,5 +1,7 @@
--- What is promised, first: Reading (read-back, the line bound) and Demand3. Behind them, what they stand on.
+-- What is promised, first; then the two files that state it; behind them, what they stand on.
+pub mod Promises
 pub mod Reading
+pub mod Demand3
 pub mod ReadWitnesses
 pub mod ReadPieces
 pub mod ReadQuoted
@@ -23,4 +25,3 @@ pub mod Handed
 pub mod DeckOrder
 pub mod Listed
 pub mod Answers
-pub mod Demand3

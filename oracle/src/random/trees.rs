@@ -132,7 +132,7 @@ pub fn corner(rng: &mut Rng) -> Mood {
         &mut mood.tall,
         &mut mood.plain_style,
     ];
-    for _ in 0..4 {
+    for _ in 0..6 {
         let chosen = rng.below(dials.len());
         *dials[chosen] = 85;
     }

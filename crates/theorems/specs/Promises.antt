@@ -1,0 +1,33 @@
+-- WHAT IS PROMISED, in order, each by the name of its theorem. The statements are in Reading and in Demand3, each of which opens with them in
+-- words; the proofs are behind those two. Nothing is assumed.
+--
+-- Text reads back, by YAML 1.2.2 (document 01, "Reading back"), of the very bytes that the emitter's leaf step writes:
+--   double-back              a double-quoted scalar, for every value, folded or not
+--   single-back              a single-quoted one, for every value without a byte below hexadecimal 20
+--   plain-back               a plain one that the emitter quotes
+--   literal-in-flow-back,    literal and folded ones in flow, which are double quoted there
+--   folded-in-flow-back
+--   literal-back             a literal block, where `use_literal_block` holds and the value has no U+FEFF
+--   commented-literal-back   so too with a comment on its header's line
+--
+-- Folding (document 01, item 4), over any weight of a byte:
+--   fold-changes-spaces      changes nothing but breakable spaces
+--   fold-keeps-width         on every line that keeps a breakable space the content ends at or before the width
+--   double-keeps-width,      so in every quoted body
+--   single-keeps-width
+--   double-folds,            and in the bytes that are written
+--   single-folds, plain-folds
+--
+-- Demand 3, over the outcomes of the calls:
+--   same-bytes               what one include brought in does not change the bytes of its document
+--   same-path                nor the files on the path down to it, nor whether they and the document are handed back
+--   same-modified            nor what `local_modified` answers, unless the include is its document's root
+--   same-files               all other files handed back are the same, in order, with their ids
+--   handed-exactly           a file with an id is handed back, once per include and in tree order, exactly when it is touched
+--   handed-only              no other list is so
+--   modified-exactly         a document is changed exactly when it is touched
+--
+-- Every call:
+--   only-outcome             no two outcomes meet its definition
+pub use Rattle.theorems.specs.Reading.{double-back, single-back, plain-back, literal-in-flow-back, folded-in-flow-back, literal-back, commented-literal-back, fold-changes-spaces, fold-keeps-width, double-keeps-width, single-keeps-width, double-folds, single-folds, plain-folds}
+pub use Rattle.theorems.specs.Demand3.{same-bytes, same-path, same-modified, same-files, handed-exactly, handed-only, modified-exactly, only-outcome}
