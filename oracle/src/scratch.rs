@@ -17,7 +17,7 @@ const MODULE: usize = 16;
 const CRATES: [&str; 2] = ["cases_a", "cases_b"];
 
 /// For each case a tree through all calls, a damaged deck through two, and, since they cost little, three small trees with much of a few
-/// things, two scalars under widths that bite, strings around the edges of UTF-8, four texts through the leaves and two through the
+/// things, two scalars under widths that bite, two nulls, strings around the edges of UTF-8, four texts through the leaves and two through the
 /// readers; in all a few program inputs, and towers.
 pub fn draw(seed: u64, cases: usize) -> Vec<Theorem> {
     let rng = &mut Rng::new(seed);
@@ -33,6 +33,7 @@ pub fn draw(seed: u64, cases: usize) -> Vec<Theorem> {
         }
         for part in 0..2 {
             made.push(theorems::width(rng, 2 * number + part, LONGEST));
+            made.push(theorems::null(rng, 2 * number + part));
         }
         for part in 0..4 {
             made.push(theorems::text(rng, 4 * number + part, 3 * LONGEST));

@@ -4,6 +4,7 @@ use crate::antt;
 use crate::calls::{self, Call, Settings};
 use crate::damage;
 use crate::deck::{self, Deck};
+use crate::encode::NullStyle;
 use crate::judge;
 use crate::leaves;
 use crate::random::{lending, texts, trees, Rng};
@@ -129,6 +130,31 @@ fn placed(rng: &mut Rng, text: String) -> YamlNode {
     } else {
         NodeStyle::Block
     })
+}
+
+/// A null or an empty scalar with properties, a comment and marks at random, as root, item or value, under every null style.
+pub fn null(rng: &mut Rng, number: usize) -> Theorem {
+    let kind = if rng.chance(70) {
+        YamlNodeKind::Null
+    } else {
+        YamlNodeKind::Scalar(String::new(), ScalarStyle::Plain)
+    };
+    let node = |kind| YamlNode::new(kind, Span::default());
+    let mut empty = node(kind);
+    empty.tag = rng.one_in(2).then(|| "!t".to_owned());
+    empty.anchor = rng.one_in(3).then(|| "a".to_owned());
+    empty.comments.inline = rng.one_in(3).then(|| "c".to_owned());
+    empty.comments.inline_before_value = rng.one_in(3);
+    empty.synthetic = rng.chance(70);
+    let other = node(YamlNodeKind::Alias("k".to_owned()));
+    let made = match rng.below(4) {
+        0 | 1 => empty,
+        2 => node(YamlNodeKind::Sequence(vec![empty])),
+        _ => node(YamlNodeKind::Mapping(vec![(other, empty)])),
+    };
+    let deck = deck::build(&[made], deck::Pooling::InOrder, rng);
+    let calls = [NullStyle::Null, NullStyle::Empty, NullStyle::Tilde].map(Call::EmitRoundtripWith);
+    on_deck(rng, format!("null{number}"), &deck, &calls)
 }
 
 /// Towers of depth 64 and 65, by each way down.

@@ -1,0 +1,68 @@
+use borrow.Author.Needs.{needs}
+use lib.ListN.{List·getD-eq-default}
+use lib.Seq.{set-out}
+use Rattle.pen.specs.Pen.{put1}
+use Rattle.pen.proofs.Writer.byte.Statement.{statement}
+use Rattle.pen.proofs.Writer.byte.Tie as tie
+use Rattle.pen.proofs.Writer.byte.Reads as reads
+use Rattle.pen.proofs.Writer.byte.Lts as lts
+use Rattle.pen.proofs.Writer.column_after.Reads as column-after-reads
+use Rattle.pen.proofs.up_to.Reads as up-to-reads
+use Rattle.pen.proofs.wide.Reads as wide-reads
+
+-- src/lib.rt:60:20
+add-most : tie.Need-add-most
+add-most c = search needs
+
+-- src/lib.rt:62:13
+column-after-requires : tie.Need-column-after-requires
+column-after-requires c κs = search needs
+
+-- src/lib.rt:64:9
+wide-requires : tie.Need-wide-requires
+wide-requires c κs = search needs
+
+-- src/lib.rt:65:9
+up-to-requires : tie.Need-up-to-requires
+up-to-requires c κs = search needs
+
+-- src/lib.rt:67:31
+slice-read-wide : tie.Need-slice-read-wide
+slice-read-wide c = search needs
+
+-- src/lib.rt:67:13
+wide-requires-2 : tie.Need-wide-requires-2
+wide-requires-2 c κs = search needs
+
+-- src/lib.rt:68:13
+slice-write-out : tie.Need-slice-write-out
+slice-write-out c = search needs
+
+-- src/lib.rt:69:13
+same-length : tie.Need-same-length
+same-length c = search needs
+
+-- src/lib.rt:69:13
+returns : tie.Need-returns
+unfolding put1
+returns c = rw (← (c .before .before .before .up-to .ensures), ← (c .before .before .before .before .before .column-after .ensures), c .before .before .before .before .wide .ensures, c .wide2 .ensures)
+
+-- src/lib.rt:56:5
+returns-2 : tie.Need-returns-2
+unfolding put1
+returns-2 c = rw (← (c .before .up-to .ensures), ← (c .before .before .before .column-after .ensures), c .before .before .wide .ensures, set-out _ _ _ (c .if1 .left), List·getD-eq-default _ _ (c .if1 .left))
+
+pub byte-spec : {M : Type 1} → statement M
+byte-spec =
+    tie.close
+    (tie.spec
+    add-most
+    column-after-requires
+    wide-requires
+    up-to-requires
+    slice-read-wide
+    wide-requires-2
+    slice-write-out
+    same-length
+    returns
+    returns-2)

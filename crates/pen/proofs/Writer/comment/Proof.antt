@@ -1,0 +1,58 @@
+use mathlib.Core.Path.{_≡_, ap, _∙_}
+use Prim.Native.Nat.{_+_}
+use borrow.Author.Tests.{eq-eqb, ne-eqb}
+use Rattle.definition.specs.Base.{spaces}
+use Rattle.definition.specs.Pen.{hashed, inlineText}
+use Rattle.pen.specs.Pen.{Pen, pen, puts, and-then, noted, withInline}
+use borrow.Author.Needs.{needs}
+use Rattle.pen.proofs.Writer.comment.Statement.{statement}
+use Rattle.pen.proofs.Writer.comment.Tie as tie
+use Rattle.pen.proofs.Writer.comment.Reads as reads
+use Rattle.pen.proofs.Writer.comment.Lts as lts
+use Rattle.pen.proofs.Writer.hashed.Reads as hashed-reads
+use Rattle.pen.proofs.Writer.spaces.Reads as spaces-reads
+use Rattle.pen.proofs.at_least_one.Reads as at-least-one-reads
+
+-- src/lib.rt:132:20
+add-mark : tie.Need-add-mark
+add-mark c = search needs
+
+-- src/lib.rt:134:13
+returns : tie.Need-returns
+unfolding noted
+returns c = rw (eq-eqb _ _ (c .if1 .taken))
+
+-- src/lib.rt:136:34
+at-least-one-requires : tie.Need-at-least-one-requires
+at-least-one-requires c κs = search needs
+
+-- src/lib.rt:136:13
+spaces-requires : tie.Need-spaces-requires
+spaces-requires c κs = search needs
+
+-- src/lib.rt:137:13
+hashed-requires : tie.Need-hashed-requires
+hashed-requires c κs = search needs
+
+-- src/lib.rt:128:5
+same-length : tie.Need-same-length
+same-length c = search needs
+
+-- src/lib.rt:128:5
+returns-2 : tie.Need-returns-2
+unfolding noted inlineText withInline
+returns-2 c =
+    rw (ne-eqb _ _ (c .before .before .before .before .before .before .before .before .before .if1 .left))
+    (ap (λ (p : Pen). pen (withInline (c .before .before .before .before .before .before .before .before .before .before .before .before .before .args .place + 1) (p .w)) (p .out)) (and-then _ _ _ (rw (c .before .before .before .before .before .before .before .at-least-one .ensures) at (c .before .before .before .before .before .before .spaces .ensures)) (c .before .before .hashed .ensures)))
+
+pub comment-spec : {M : Type 1} → statement M
+comment-spec =
+    tie.close
+    (tie.spec
+    add-mark
+    returns
+    at-least-one-requires
+    spaces-requires
+    hashed-requires
+    same-length
+    returns-2)

@@ -1,0 +1,29 @@
+use borrow.Author.Tests.{eq-eqb, ne-eqb}
+use Rattle.pen.specs.Pen.{lineEnded}
+use borrow.Author.Needs.{needs}
+use Rattle.pen.proofs.Writer.end_line.Statement.{statement}
+use Rattle.pen.proofs.Writer.end_line.Tie as tie
+use Rattle.pen.proofs.Writer.end_line.Reads as reads
+use Rattle.pen.proofs.Writer.end_line.Lts as lts
+use Rattle.pen.proofs.Writer.byte.Reads as byte-reads
+
+-- src/lib.rt:109:13
+returns : tie.Need-returns
+unfolding lineEnded
+returns c = rw (eq-eqb _ _ (c .if1 .taken))
+
+-- src/lib.rt:111:9
+byte-requires : tie.Need-byte-requires
+byte-requires c κs = search needs
+
+-- src/lib.rt:104:5
+same-length : tie.Need-same-length
+same-length c = search needs
+
+-- src/lib.rt:104:5
+returns-2 : tie.Need-returns-2
+unfolding lineEnded
+returns-2 c = rw (ne-eqb _ _ (c .before .before .before .before .if1 .left)) (c .before .before .byte .ensures)
+
+pub end-line-spec : {M : Type 1} → statement M
+end-line-spec = tie.close (tie.spec returns byte-requires same-length returns-2)

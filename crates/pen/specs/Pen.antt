@@ -1,0 +1,138 @@
+-- The pen: what writing into a lent slice does, one byte after another, and what a script does to it. Total in all states: a store past the
+-- end changes nothing, a byte past the end is 0, and counts stop at two past the room.
+use Prim.Native.Nat.{ℕ, _+_, _-_, min, max}
+use mathlib.Core.Path.{_≡_, refl, sym, ap, _∙_}
+use mathlib.Core.Bool.{Bool, true, false, _&&_}
+use mathlib.Core.List.{List, [], _∷_, _++_}
+use mathlib.Core.Option.{Option, none, some}
+use lib.ListN.{length, getD, set}
+use lib.Dec.{eqb}
+use Rattle.definition.specs.Base.{Bytes, if_then_else_}
+use Rattle.definition.specs.Ascii.{LF}
+use Rattle.definition.specs.Scalar.{scalarText, separator}
+use Rattle.definition.specs.Tree.{Inline}
+use Rattle.definition.specs.Pen.{Script, put, endLine, comment, replay, leaf, comma, _>>_, inlineText, endsClosed}
+use Rattle.definition.specs.declared.Settings.{Settings}
+use Rattle.pen.specs.declared.Writer.{Writer}
+
+-- a writer and its slice
+pub record Pen : Type 0 where
+  pub w : Writer
+  pub out : Bytes
+
+abbrev pub pen : Writer → Bytes → Pen
+pen w o = record { w = w; out = o }
+
+-- the column after a byte, `most` at most
+unfoldable pub columnAfter : Writer → ℕ → ℕ → ℕ
+columnAfter w most b = if eqb (w .tracks) 0 then w .column else if eqb b LF then 0 else min (w .column + 1) most
+
+-- one byte: stored where there is room, else only counted
+unfoldable pub put1 : Pen → ℕ → Pen
+put1 p b =
+    pen
+    (record {
+      len = min (p .w .len + 1) (length (p .out) + 2);
+      last = b;
+      under = getD (p .out) (p .w .len) 0;
+      column = columnAfter (p .w) (length (p .out) + 2) b;
+      tracks = p .w .tracks;
+      flow = p .w .flow;
+      key = p .w .key;
+      inline = p .w .inline;
+      raw = p .w .raw;
+    })
+    (set (p .out) (p .w .len) b)
+
+unfoldable pub puts : Bytes → Pen → Pen
+puts [] p = p
+puts (b ∷ bs) p = puts bs (put1 p b)
+
+pub puts-append : (a b : Bytes) (p : Pen) → puts (a ++ b) p ≡ puts b (puts a p)
+unfolding puts
+puts-append [] b p = refl
+puts-append (x ∷ a) b p = puts-append a b (put1 p x)
+
+-- one text after another
+pub and-then : (p : Pen) {q r : Pen} (a b : Bytes) → q ≡ puts a p → r ≡ puts b q → r ≡ puts (a ++ b) p
+and-then p a b e f = f ∙ ap (puts b) e ∙ sym (puts-append a b p)
+
+-- ---- the steps that look at the writer
+
+unfoldable pub lineEnded : Pen → Pen
+lineEnded p = if eqb (p .w .last) LF then p else put1 p LF
+
+unfoldable pub withInline : ℕ → Writer → Writer
+withInline m w =
+    record {
+      len = w .len;
+      last = w .last;
+      under = w .under;
+      column = w .column;
+      tracks = w .tracks;
+      flow = w .flow;
+      key = w .key;
+      inline = m;
+      raw = w .raw;
+    }
+
+unfoldable pub withRaw : ℕ → Writer → Writer
+withRaw m w =
+    record {
+      len = w .len;
+      last = w .last;
+      under = w .under;
+      column = w .column;
+      tracks = w .tracks;
+      flow = w .flow;
+      key = w .key;
+      inline = w .inline;
+      raw = m;
+    }
+
+-- the inline comment of the node at a place, unless it was the last one written
+unfoldable pub noted : ℕ → Inline → Pen → Pen
+noted place c p =
+    let q = puts (inlineText c) p in
+    if eqb (p .w .inline) (place + 1) then p else pen (withInline (place + 1) (q .w)) (q .out)
+
+-- a raw text, and where it ended if it has no line break there
+unfoldable pub rawed : Bytes → Pen → Pen
+rawed t p = let q = puts t p in if endsClosed t then q else pen (withRaw (q .w .len + 1) (q .w)) (q .out)
+
+-- the byte put last, taken away again
+unfoldable pub unput : Pen → Pen
+unput p =
+    pen
+    (record {
+      len = p .w .len - 1;
+      last = p .w .last;
+      under = p .w .under;
+      column = p .w .column;
+      tracks = p .w .tracks;
+      flow = p .w .flow;
+      key = p .w .key;
+      inline = p .w .inline;
+      raw = p .w .raw;
+    })
+    (set (p .out) (p .w .len - 1) (p .w .under))
+
+-- `finish`: the last line break is dropped, if it directly follows a raw text that has none of its own
+unfoldable pub ended : Pen → Pen
+ended p = if eqb (p .w .raw) 0 then p else if eqb (p .w .len) (p .w .raw) then (if eqb (p .w .last) LF then unput p else p) else p
+
+-- ---- a script
+
+unfoldable pub noteOf : ℕ → Option Inline → Pen → Pen
+noteOf place none p = p
+noteOf place (some c) p = noted place c p
+
+module _ (s : Settings) where
+  unfoldable pub ink : Script → Pen → Pen
+  ink (put k t) p = puts t p
+  ink endLine p = lineEnded p
+  ink (comment place c) p = noteOf place c p
+  ink (replay place t) p = rawed t p
+  ink (leaf place flow key t y i) p = puts (scalarText s flow key t y i (p .w .column)) p
+  ink (comma key i) p = puts (separator s key i (p .w .column)) p
+  ink (a >> b) p = ink b (ink a p)

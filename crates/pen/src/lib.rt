@@ -1,0 +1,206 @@
+// The pen: a writer by value over a lent slice. It stores only inside the room, and counts two past it at most, so that whether the
+// finished bytes fit is known also where the last line break is dropped again.
+ghost use mathlib.Core.Path.{_≡_};
+ghost use Prim.Native.Nat.{_+_, _<_, _^_, min, max};
+ghost use lib.ListN.{length};
+ghost use mathlib.Core.Bool.{Bool};
+ghost use Rattle.definition.specs.Base.{spaces};
+ghost use Rattle.definition.specs.Pen.{hashed, endsClosed};
+ghost use Rattle.pen.specs.Pen.{pen, put1, puts, columnAfter, lineEnded, noted, rawed, unput, ended};
+
+// `len`: how many bytes were put, at most the room and two. `last`: the byte put last, 0 at the start. `under`: what that byte was put over, 0
+// past the room. `column`: the columns since the last line break, at most the room and two; it is kept only where `tracks` is not 0.
+// `flow`: how many flow collections are open. `key`: not 0 inside an inline key. `inline`: one more than the place of the node whose inline
+// comment was written last, 0 at the start. `raw`: one more than where the last raw text ended without a line break, 0 at the start.
+pub struct Writer {
+    pub len: usize,
+    pub last: usize,
+    pub under: usize,
+    pub column: usize,
+    pub tracks: usize,
+    pub flow: usize,
+    pub key: usize,
+    pub inline: usize,
+    pub raw: usize,
+}
+
+fn wide(b: u8) -> usize
+    ensures { λ r. ⌜ r ≡ b ⌝ }
+{
+    b as usize
+}
+
+// One more, but never more than `most`.
+fn up_to(n: usize, most: usize) -> usize
+    requires { ⌜ most < 2 ^ 63 ⌝ }
+    ensures { λ r. ⌜ r ≡ min (n + 1) most ⌝ }
+{
+    if n < most {
+        return n + 1;
+    }
+    most
+}
+
+impl Writer {
+    // The column after a byte.
+    fn column_after(self, most: usize, b: u8) -> usize
+        requires { ⌜ most < 2 ^ 63 ⌝ }
+        ensures { λ r. ⌜ r ≡ columnAfter self most b ⌝ }
+    {
+        if self.tracks == 0 {
+            return self.column;
+        }
+        if b == b'\n' {
+            return 0;
+        }
+        up_to(self.column, most)
+    }
+
+    pub fn byte(mut self, out: &mut [u8], b: u8) -> Self
+        requires { ⌜ length (now out) < 2 ^ 62 ⌝ }
+        ensures { λ r. ⌜ pen r (now (out .exit)) ≡ put1 (pen self (now (out .entry))) b ⌝ }
+    {
+        let most = out.len() + 2;
+        let len = self.len;
+        let column = self.column_after(most, b);
+        self.column = column;
+        self.last = wide(b);
+        self.len = up_to(len, most);
+        if len < out.len() {
+            self.under = wide(out[len]);
+            out[len] = b;
+            return self;
+        }
+        self.under = 0;
+        self
+    }
+
+    pub fn text(self, out: &mut [u8], t: &[u8]) -> Self
+        requires { ⌜ length (now out) < 2 ^ 62 ⌝ }
+        ensures { λ r. ⌜ pen r (now (out .exit)) ≡ puts (now (t .entry)) (pen self (now (out .entry))) ⌝ }
+    {
+        let mut w = self;
+        let mut i = 0;
+        while i < t.len() {
+            w = w.byte(out, t[i]);
+            i += 1;
+        }
+        w
+    }
+
+    pub fn spaces(self, out: &mut [u8], n: usize) -> Self
+        requires { ⌜ length (now out) < 2 ^ 62 ⌝ }
+        ensures { λ r. ⌜ pen r (now (out .exit)) ≡ puts (spaces n) (pen self (now (out .entry))) ⌝ }
+    {
+        let mut w = self;
+        let mut left = n;
+        while left > 0 {
+            w = w.byte(out, b' ');
+            left -= 1;
+        }
+        w
+    }
+
+    pub fn end_line(self, out: &mut [u8]) -> Self
+        requires { ⌜ length (now out) < 2 ^ 62 ⌝ }
+        ensures { λ r. ⌜ pen r (now (out .exit)) ≡ lineEnded (pen self (now (out .entry))) ⌝ }
+    {
+        if self.last == 10 {
+            return self;
+        }
+        self.byte(out, b'\n')
+    }
+
+    // `#`, and the text where there is one.
+    pub fn hashed(self, out: &mut [u8], t: &[u8]) -> Self
+        requires { ⌜ length (now out) < 2 ^ 62 ⌝ }
+        ensures { λ r. ⌜ pen r (now (out .exit)) ≡ puts (hashed (now (t .entry))) (pen self (now (out .entry))) ⌝ }
+    {
+        let w = self.byte(out, b'#');
+        if t.len() == 0 {
+            return w;
+        }
+        let w2 = w.byte(out, b' ');
+        w2.text(out, t)
+    }
+
+    // The inline comment of the node at `place`, unless it was the last one written.
+    pub fn comment(self, out: &mut [u8], place: usize, before: usize, t: &[u8]) -> Self
+        requires { ⌜ (length (now out) < 2 ^ 62) × (place < 2 ^ 62) ⌝ }
+        ensures { λ r. ⌜ pen r (now (out .exit)) ≡ noted place (record { text = now (t .entry); spaces = before }) (pen self (now (out .entry))) ⌝ }
+    {
+        let mark = place + 1;
+        if self.inline == mark {
+            return self;
+        }
+        let w = self.spaces(out, at_least_one(before));
+        let mut w2 = w.hashed(out, t);
+        w2.inline = mark;
+        w2
+    }
+
+    // A raw text, and where it ended if it has no line break there.
+    pub fn replay(self, out: &mut [u8], t: &[u8]) -> Self
+        requires { ⌜ (length (now out) < 2 ^ 62) × (self .len < 2 ^ 62) ⌝ }
+        ensures { λ r. ⌜ pen r (now (out .exit)) ≡ rawed (now (t .entry)) (pen self (now (out .entry))) ⌝ }
+    {
+        let mut w = self.text(out, t);
+        if ends_closed(t) {
+            return w;
+        }
+        w.raw = w.len + 1;
+        w
+    }
+
+    // Takes the byte put last away again, and puts back what it was put over.
+    fn dropped(mut self, out: &mut [u8]) -> Self
+        requires { ⌜ (0 < self .len) × (self .under < 256) ⌝ }
+        ensures { λ r. ⌜ pen r (now (out .exit)) ≡ unput (pen self (now (out .entry))) ⌝ }
+    {
+        let len = self.len - 1;
+        let under = (self.under % 256) as u8;
+        self.len = len;
+        if len < out.len() {
+            out[len] = under;
+        }
+        self
+    }
+
+    // The end of a file: its last line break is dropped, if it directly follows a raw text that has none of its own.
+    pub fn finish(self, out: &mut [u8]) -> Self
+        requires { ⌜ self .under < 256 ⌝ }
+        ensures { λ r. ⌜ pen r (now (out .exit)) ≡ ended (pen self (now (out .entry))) ⌝ }
+    {
+        if self.raw == 0 {
+            return self;
+        }
+        if self.len != self.raw {
+            return self;
+        }
+        if self.last != 10 {
+            return self;
+        }
+        self.dropped(out)
+    }
+}
+
+fn at_least_one(n: usize) -> usize
+    ensures { λ r. ⌜ r ≡ max n 1 ⌝ }
+{
+    if n == 0 {
+        return 1;
+    }
+    n
+}
+
+// The text ends in LF or CR.
+fn ends_closed(t: &[u8]) -> bool
+    ensures { λ r. ⌜ r ≡ endsClosed (now (t .entry)) ⌝ }
+{
+    let n = t.len();
+    if n == 0 {
+        return false;
+    }
+    let b = t[n - 1];
+    b == b'\n' || b == b'\r'
+}
