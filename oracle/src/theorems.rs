@@ -157,14 +157,17 @@ pub fn null(rng: &mut Rng, number: usize) -> Theorem {
     on_deck(rng, format!("null{number}"), &deck, &calls)
 }
 
-/// Towers of depth 64 and 65, by each way down.
+/// Towers of depth 64 and 65, by each way down, with and without a tag on the deepest node.
 pub fn towers(rng: &mut Rng) -> Vec<Theorem> {
     let mut made = Vec::new();
     for (way, tower) in damage::TOWERS.into_iter().enumerate() {
         for depth in [64, 65] {
-            let deck = damage::tower(tower, depth, way % 2 == 1);
+            let mut deck = damage::tower(tower, depth, way % 2 == 1);
             let calls = [Call::EmitRoundtrip, Call::LocalModified];
             made.push(on_deck(rng, format!("tower{way}-{depth}"), &deck, &calls));
+            let deepest = damage::tower_place(tower, depth);
+            deck.deck.splice(deepest..deepest, [0x01, 0, 0, 0, 0]);
+            made.push(on_deck(rng, format!("tagged{way}-{depth}"), &deck, &calls));
         }
     }
     made
