@@ -8,3 +8,4 @@ pub mod Places
 pub mod Folded
 pub mod Lawful
 pub mod Trim
+pub mod Leaf

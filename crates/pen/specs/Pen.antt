@@ -9,10 +9,11 @@ use lib.ListN.{length, getD, set}
 use lib.Dec.{eqb}
 use Rattle.definition.specs.Base.{Bytes, if_then_else_}
 use Rattle.definition.specs.Ascii.{LF}
-use Rattle.definition.specs.Scalar.{scalarText, separator}
+use Rattle.definition.specs.Scalar.{separator}
 use Rattle.definition.specs.Tree.{Inline}
 use Rattle.definition.specs.Pen.{Script, put, endLine, comment, replay, leaf, comma, _>>_, inlineText, endsClosed}
 use Rattle.definition.specs.declared.Settings.{Settings}
+use Rattle.laws.specs.Leaf.{scalarBytes}
 use Rattle.pen.specs.declared.Writer.{Writer}
 
 -- a writer and its slice
@@ -121,7 +122,7 @@ unput p =
 unfoldable pub ended : Pen → Pen
 ended p = if eqb (p .w .raw) 0 then p else if eqb (p .w .len) (p .w .raw) then (if eqb (p .w .last) LF then unput p else p) else p
 
--- ---- a script
+-- ---- a script, its scalars by the bytes at a place
 
 unfoldable pub noteOf : ℕ → Option Inline → Pen → Pen
 noteOf place none p = p
@@ -133,6 +134,6 @@ module _ (s : Settings) where
   ink endLine p = lineEnded p
   ink (comment place c) p = noteOf place c p
   ink (replay place t) p = rawed t p
-  ink (leaf place flow key t y i) p = puts (scalarText s flow key t y i (p .w .column)) p
+  ink (leaf place flow key t y i) p = puts (scalarBytes s flow key t y i (p .w .column)) p
   ink (comma key i) p = puts (separator s key i (p .w .column)) p
   ink (a >> b) p = ink b (ink a p)

@@ -15,6 +15,7 @@ use lib.Dec.{eqb, ltb}
 use borrow.Author.Tests.{ltb-true, ltb-false, eq-eqb, ne-eqb, eqb-true}
 use Rattle.definition.specs.Base.{Bytes, if_then_else_}
 use Rattle.definition.specs.Ascii.{LF}
+use Rattle.definition.specs.Utf8.{wellFormed}
 use Rattle.definition.specs.Fold.{Weight, column}
 use Rattle.definition.specs.Settings.{weightOf, folds}
 use Rattle.definition.specs.Scalar.{scalarText, styledQuotes, ownQuotes, mustQuote, separator}
@@ -23,6 +24,7 @@ use Rattle.definition.specs.Pen.{Script, put, endLine, comment, replay, leaf, c
 use Rattle.definition.specs.declared.Settings.{Settings}
 use Rattle.definition.specs.declared.Style.{Style}
 use Rattle.definition.specs.declared.Style.the-variants.{Plain, Single, Double, Literal, Folded}
+use Rattle.laws.specs.Leaf.{scalar-same}
 use Rattle.pen.specs.declared.Writer.{Writer}
 use Rattle.pen.specs.Pen.{Pen, pen, columnAfter, put1, puts, puts-append, lineEnded, withInline, withRaw, noted, noteOf, rawed, unput, ended, ink}
 
@@ -136,17 +138,17 @@ put1-shows orig k p x b h = record {
   tracks = h .tracks;
   len = rw (h .size, h .len) (omega arith);
   exact = λ l.
-    let l′ : length (x .out) ≤ length orig + 2 = omega arith in
-    let e = h .exact l′ in
-    let n : p .w .len ≡ length (reverse (x .out)) = h .len ∙ rw length-reverse (omega arith) in
-    record {
-      last = unfold headOr in refl;
-      under = rw (e .out, n, over-get) (rw length-reverse (unfold underOf in refl));
-      column = λ t. rw (h .size) (column-after (p .w) (x .out) (length orig + 2) b t (e .column t) (omega arith));
-      inline = e .inline;
-      raw = e .raw;
-      out = rw (e .out, n, over-one) (rw reverse-cons);
-    };
+      let l′ : length (x .out) ≤ length orig + 2 = omega arith in
+      let e = h .exact l′ in
+      let n : p .w .len ≡ length (reverse (x .out)) = h .len ∙ rw length-reverse (omega arith) in
+      record {
+        last = unfold headOr in refl;
+        under = rw (e .out, n, over-get) (rw length-reverse (unfold underOf in refl));
+        column = λ t. rw (h .size) (column-after (p .w) (x .out) (length orig + 2) b t (e .column t) (omega arith));
+        inline = e .inline;
+        raw = e .raw;
+        out = rw (e .out, n, over-one) (rw reverse-cons);
+      };
 }
 
 -- ---- texts
@@ -294,9 +296,9 @@ raw-shows orig k q y h = record {
   tracks = h .tracks;
   len = h .len;
   exact = λ l.
-    let e = h .exact l in
-    let n : q .w .len ≡ length (y .out) = h .len ∙ omega arith in
-    record { last = e .last; under = e .under; column = e .column; inline = e .inline; raw = ap (λ (m : ℕ). m + 1) n ∙ unfold markOf in refl; out = e .out };
+      let e = h .exact l in
+      let n : q .w .len ≡ length (y .out) = h .len ∙ omega arith in
+      record { last = e .last; under = e .under; column = e .column; inline = e .inline; raw = ap (λ (m : ℕ). m + 1) n ∙ unfold markOf in refl; out = e .out };
 }
 
 replay-shows : (orig : Bytes) (k : ℕ) (t : Bytes) (p : Pen) (x : St) → Shows orig k p x → Shows orig k (rawed t p) (replayed t x)
@@ -341,17 +343,28 @@ column-text f orig k p x s g h = texts-show _ _ orig k p x h (λ l. go (eqb k 0)
 
 -- ---- a script
 
+-- the scalars of a script are well-formed texts
+unfoldable pub Sound : Script → Type 0
+Sound (put j t) = Unit {0}
+Sound endLine = Unit {0}
+Sound (comment place c) = Unit {0}
+Sound (replay place t) = Unit {0}
+Sound (leaf place flow key t y i) = wellFormed t ≡ true
+Sound (comma key i) = Unit {0}
+Sound (a >> b) = Sound a × Sound b
+
 module _ (s : Settings) where
-  pub ink-shows : (a : Script) (orig : Bytes) (k : ℕ) → (k ≡ 0 → s .width ≡ 0) → (p : Pen) (x : St) → Shows orig k p x → Shows orig k (ink s a p) (run s a x)
-  unfolding ink run
-  ink-shows (put j t) orig k g p x h = puts-shows t orig k p x h
-  ink-shows endLine orig k g p x h = line-shows orig k p x h
-  ink-shows (comment place none) orig k g p x h = unfold noteOf commented in h
-  ink-shows (comment place (some c)) orig k g p x h = unfold noteOf in note-shows orig k place c p x h
-  ink-shows (replay place t) orig k g p x h = replay-shows orig k t p x h
-  ink-shows (leaf place flow key t y i) orig k g p x h = column-text (λ c. scalarText s flow key t y i c) orig k p x s (λ e c d. scalar-flat s flow key t y i c d (g e)) h
-  ink-shows (comma key i) orig k g p x h = column-text (λ c. separator s key i c) orig k p x s (λ e c d. separator-flat s key i c d (g e)) h
-  ink-shows (a >> b) orig k g p x h = ink-shows b orig k g (ink s a p) (run s a x) (ink-shows a orig k g p x h)
+  pub ink-shows : (a : Script) → Sound a → (orig : Bytes) (k : ℕ) → (k ≡ 0 → s .width ≡ 0) → (p : Pen) (x : St) → Shows orig k p x → Shows orig k (ink s a p) (run s a x)
+  unfolding ink run Sound
+  ink-shows (put j t) z orig k g p x h = puts-shows t orig k p x h
+  ink-shows endLine z orig k g p x h = line-shows orig k p x h
+  ink-shows (comment place none) z orig k g p x h = unfold noteOf commented in h
+  ink-shows (comment place (some c)) z orig k g p x h = unfold noteOf in note-shows orig k place c p x h
+  ink-shows (replay place t) z orig k g p x h = replay-shows orig k t p x h
+  ink-shows (leaf place flow key t y i) z orig k g p x h =
+      rw (scalar-same s flow key t y i (p .w .column) z) (column-text (λ c. scalarText s flow key t y i c) orig k p x s (λ e c d. scalar-flat s flow key t y i c d (g e)) h)
+  ink-shows (comma key i) z orig k g p x h = column-text (λ c. separator s key i c) orig k p x s (λ e c d. separator-flat s key i c d (g e)) h
+  ink-shows (a >> b) z orig k g p x h = ink-shows b (z .1) orig k g (ink s a p) (run s a x) (ink-shows a (z .0) orig k g p x h)
 
 -- ---- a file: from a new writer to its end
 
@@ -465,9 +478,9 @@ pub record Leaves (orig t : Bytes) (p : Pen) : Type 0 where
   pub fits : length t ≤ length orig → (p .w .len ≡ length t) × (p .out ≡ t ++ drop (length t) orig)
   pub over : length orig < length t → length orig < p .w .len
 
-pub leaves : (s : Settings) (a : Script) (orig : Bytes) (k f y : ℕ) → (k ≡ 0 → s .width ≡ 0) → Leaves orig (bytesOf s a) (ended (ink s a (pen (fresh k f y) orig)))
+pub leaves : (s : Settings) (a : Script) → Sound a → (orig : Bytes) (k f y : ℕ) → (k ≡ 0 → s .width ≡ 0) → Leaves orig (bytesOf s a) (ended (ink s a (pen (fresh k f y) orig)))
 unfolding bytesOf
-leaves s a orig k f y g = go (ltb (length orig + 2) (length (run s a start .out))) refl
+leaves s a z orig k f y g = go (ltb (length orig + 2) (length (run s a start .out))) refl
   where
     p : Pen
     p = ink s a (pen (fresh k f y) orig)
@@ -476,7 +489,7 @@ leaves s a orig k f y g = go (ltb (length orig + 2) (length (run s a start .out)
     x = run s a start
 
     h : Shows orig k p x
-    h = ink-shows s a orig k g (pen (fresh k f y) orig) start (fresh-shows orig k f y)
+    h = ink-shows s a z orig k g (pen (fresh k f y) orig) start (fresh-shows orig k f y)
 
     back : Bytes
     back = finished (x .rawEnd) (x .out)
