@@ -1,8 +1,7 @@
 -- Document 01's sample lines that are marked P, as rows of one table: what the definitions give beside what the document says.
 use mathlib.Core.Path.{_≡_, refl}
-use Prim.Native.Nat.{ℕ, _+_}
-use mathlib.Core.Bool.{Bool, true, false}
-use mathlib.Core.List.{List, [], _∷_, _++_}
+use Prim.Native.Nat.{ℕ}
+use mathlib.Core.List.{List, [], _∷_}
 use lib.ListN.{length, take, replicate}
 use Rattle.definition.specs.Base.{Bytes}
 use Rattle.definition.specs.Ascii.{LF, SP, '+', '-', '|', '~', '[', ']', QUOTE, COMMA, BACKSLASH}

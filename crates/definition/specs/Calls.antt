@@ -1,7 +1,7 @@
 -- The public calls: for each, one function from what it is lent to the whole outcome. (Document 01, "Refusal numbers" and "Strength of the
 -- contracts".) Calls that write are lent no list, and `local_modified` neither list nor output: these are then empty.
-use Prim.Native.Nat.{ℕ, zero, suc, _+_}
-use mathlib.Core.Bool.{Bool, true, false, _||_}
+use Prim.Native.Nat.{ℕ, _+_}
+use mathlib.Core.Bool.{Bool, false, _||_}
 use mathlib.Core.List.{List, [], _∷_, _++_}
 use lib.Dec.{ltb}
 use lib.ListN.{length, drop, replicate}

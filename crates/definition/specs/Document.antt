@@ -1,9 +1,9 @@
 -- Documents: `emit_document`, and the bytes of the emission calls and of a file that is handed back.
 use Prim.Native.Nat.{ℕ}
 use mathlib.Core.Bool.{Bool, true, false, not, _&&_}
-use mathlib.Core.List.{List, [], _∷_, _++_}
+use mathlib.Core.List.{List, [], _∷_}
 use Rattle.definition.specs.Base.{Bytes, if_then_else_, isNil, isSome}
-use Rattle.definition.specs.Ascii.{LF, '%', '-', DOT}
+use Rattle.definition.specs.Ascii.{'%', '-', DOT}
 use Rattle.definition.specs.Settings.{plainSettings, stepOf, isEmptyStyle}
 use Rattle.definition.specs.Tree.{Kept, Brought, Node, Kind, node, kept}
 use Rattle.definition.specs.Pen.{directive, mark, Script, put, _>>_, nothing, newline, bytesOf}

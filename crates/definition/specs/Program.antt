@@ -1,14 +1,13 @@
 -- The emit program, as a function from what stands on its standard input to what it writes. (Document 01, "The emit program".)
 use Prim.Native.Nat.{ℕ, zero, suc, _+_, _*_, _/_, _%_}
-use mathlib.Core.Bool.{Bool, true, false}
-use mathlib.Core.List.{List, [], _∷_, _++_}
+use mathlib.Core.List.{[], _∷_, _++_}
 use lib.Dec.{eqb, ltb}
 use lib.ListN.{length, take, drop, replicate}
 use Rattle.definition.specs.Base.{Bytes, if_then_else_}
 use Rattle.definition.specs.Ascii.{LF, SP}
 use Rattle.definition.specs.Settings.{plainSettings}
 use Rattle.definition.specs.Records.{wordAt}
-use Rattle.definition.specs.Calls.{Lent, Outcome, refused, writeAll}
+use Rattle.definition.specs.Calls.{Outcome, writeAll}
 
 -- a number in decimal digits, of which it has at most `n`
 unfoldable pub decimal : ℕ → ℕ → Bytes

@@ -2,7 +2,7 @@
 -- document 01, "Reading back"; it knows nothing of the writer. A text that is not of the kind in question is refused: `none`.
 use Prim.Native.Nat.{ℕ, zero, suc, _+_, _-_, _*_, _/_, _%_, max}
 use mathlib.Core.Bool.{Bool, true, false, not, _&&_, _||_}
-use mathlib.Core.List.{List, [], _∷_, _++_}
+use mathlib.Core.List.{[], _∷_, _++_}
 use mathlib.Core.Option.{Option, none, some}
 use lib.Dec.{eqb, leb, ltb}
 use Rattle.definition.specs.Base.{Bytes, if_then_else_, isNil, within, any}

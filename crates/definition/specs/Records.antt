@@ -1,7 +1,7 @@
 -- The record at a cursor of a deck, totally: past the deck's end a byte is 0, and an unknown kind reads as null and has no bytes. Which
 -- records have a meaning is said in Deck. (Document 01, "The deck".)
 use Prim.Native.Nat.{ℕ, _+_, _*_}
-use mathlib.Core.Bool.{Bool, true, false, _||_}
+use mathlib.Core.Bool.{_||_}
 use lib.Dec.{eqb}
 use lib.ListN.{getD}
 use Rattle.definition.specs.Base.{Bytes, if_then_else_}

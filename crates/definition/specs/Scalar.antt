@@ -1,8 +1,8 @@
 -- What is written of a scalar, and of the comma between two flow entries (emit.rs: `emit_scalar`, `push_quoted`, `push_styled_quotes`,
 -- `emit_flow_separator`). Of what is written already they read the column alone: `col`.
 use Prim.Native.Nat.{ℕ, _+_, max}
-use mathlib.Core.Bool.{Bool, true, false, not, _&&_, _||_}
-use mathlib.Core.List.{List, [], _∷_, _++_}
+use mathlib.Core.Bool.{Bool, true, false, _&&_, _||_}
+use mathlib.Core.List.{[], _∷_, _++_}
 use lib.Dec.{eqb, leb, ltb}
 use lib.ListN.{getD}
 use Rattle.definition.specs.Base.{Bytes, if_then_else_, has, spaces}

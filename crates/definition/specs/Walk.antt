@@ -1,19 +1,19 @@
 -- The walk: for each method of emit.rs that goes over the tree, the script that it writes. Flow depth and key mark are the arguments `flow`
 -- and `key`, "inside a flow collection" and "inside an inline key"; block layout is only ever reached with both off. No function here reads
 -- the emitter's state. A branch that calls the walk again stands behind a `let`, which is computed only when it is read.
-use Prim.Native.Nat.{ℕ, zero, suc, _+_, max}
+use Prim.Native.Nat.{ℕ, _+_, max}
 use mathlib.Core.Bool.{Bool, true, false, not, _&&_, _||_}
 use mathlib.Core.List.{List, [], _∷_, _++_}
 use mathlib.Core.Option.{Option, none, some}
 use lib.Dec.{leb}
 use lib.ListN.{replicate}
-use Rattle.definition.specs.Base.{Bytes, if_then_else_, isNil, isSome, spaces}
+use Rattle.definition.specs.Base.{Bytes, if_then_else_, isNil, isSome}
 use Rattle.definition.specs.Ascii.{LF, SP, '&', '*', COMMA, '-', ':', '?', '[', ']', OPEN, CLOSE, '~'}
 use Rattle.definition.specs.Block.{blockHeader, blockBody}
 use Rattle.definition.specs.Settings.{stepOf, isEmptyStyle, isTilde}
 use Rattle.definition.specs.Scalar.{markerOf}
-use Rattle.definition.specs.Tree.{Source, Head, Kept, Brought, Node, Kind, Nodes, Pairs, node, null, scalar, alias, sequence, mapping, end, item, close, pair, place, kept, brought, kind}
-use Rattle.definition.specs.Pen.{text, property, remark, directive, mark, space, Script, put, endLine, comment, replay, leaf, comma, _>>_, nothing, newline, indent, sign, hashed}
+use Rattle.definition.specs.Tree.{Source, Head, Kept, Brought, Node, Kind, Nodes, Pairs, node, null, scalar, alias, sequence, mapping, end, item, close, pair, place, kept, brought}
+use Rattle.definition.specs.Pen.{text, property, remark, directive, space, Script, put, endLine, comment, replay, leaf, comma, _>>_, nothing, newline, indent, sign, hashed}
 use Rattle.definition.specs.declared.Settings.{Settings}
 use Rattle.definition.specs.declared.Style.{Style}
 use Rattle.definition.specs.declared.Style.the-variants.{Plain, Single, Double, Literal, Folded}

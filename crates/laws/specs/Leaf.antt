@@ -1,18 +1,17 @@
 -- What is written of a scalar, by the bytes at a place: what Scalar has by characters, on well-formed text (`scalar-same`). A program that
 -- cuts no characters and makes no body is proved to write this.
 use Prim.Native.Nat.{ℕ, _+_, max}
-use mathlib.Core.Path.{_≡_, refl, sym, ap, _∙_}
+use mathlib.Core.Path.{_≡_}
 use mathlib.Core.Bool.{Bool, true, false, not, _&&_, _||_}
-use mathlib.Core.List.{List, [], _∷_, _++_}
+use mathlib.Core.List.{[], _∷_, _++_}
 use lib.Dec.{eqb, ltb}
 use Rattle.definition.specs.Base.{Bytes, if_then_else_, any, has}
 use Rattle.definition.specs.Ascii.{LF, CR, APOSTROPHE}
 use Rattle.definition.specs.Utf8.{wellFormed}
 use Rattle.definition.specs.Quote.{singleCapable, singleQuotable}
-use Rattle.definition.specs.Fold.{fold}
 use Rattle.definition.specs.Block.{blockHeader, blockBody}
 use Rattle.definition.specs.Settings.{weightOf, folds}
-use Rattle.definition.specs.Scalar.{quoteOf, bodyOf, quoted, quotedFolded, styledQuotes, ownQuotes, mustQuote, blockText, markerOf, scalarText}
+use Rattle.definition.specs.Scalar.{quoteOf, quoted, quotedFolded, styledQuotes, ownQuotes, mustQuote, blockText, markerOf, scalarText}
 use Rattle.definition.specs.declared.Settings.{Settings}
 use Rattle.definition.specs.declared.Style.{Style}
 use Rattle.definition.specs.declared.Style.the-variants.{Plain, Single, Double, Literal, Folded}

@@ -1,9 +1,9 @@
 -- What the proofs of this crate share: the last byte of a text, and what bounds a pen keeps.
-use mathlib.Core.Path.{_≡_, refl, sym, ap, _∙_}
-use Prim.Native.Nat.{ℕ, zero, suc, _+_, _-_, _<_, _≤_, min}
+use mathlib.Core.Path.{_≡_, refl}
+use Prim.Native.Nat.{ℕ, suc, _+_, _-_, _<_, _≤_}
 use native.Mathlib.Omega.{arith}
-use mathlib.Core.Bool.{Bool, true, false, _||_}
-use mathlib.Core.List.{List, [], _∷_}
+use mathlib.Core.Bool.{false, _||_}
+use mathlib.Core.List.{[], _∷_}
 use lib.ListN.{length, getD, length-set}
 use lib.Dec.{eqb}
 use Rattle.definition.specs.Base.{Bytes, isNil}

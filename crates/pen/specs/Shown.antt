@@ -1,16 +1,14 @@
 -- The pen over a slice is the definition's pen: what a script leaves in the slice is the definition's bytes laid over what was there, and the
 -- count says whether they have room. It is exact as long as at most two bytes more than the room are written; past that only the count
 -- matters, and it stays two past the room.
-use mathlib.Core.Path.{_≡_, refl, sym, ap, ap₂, subst, _∙_}
-use Prim.Native.Nat.{ℕ, zero, suc, _+_, _-_, _≤_, _<_, min}
+use mathlib.Core.Path.{_≡_, refl, sym, ap, subst, _∙_}
+use Prim.Native.Nat.{ℕ, suc, _+_, _-_, _≤_, _<_, min}
 use native.Mathlib.Omega.{arith}
 use native.Mathlib.Nat.{le-of-suc-le-suc}
-use native.Mathlib.Numerals.{add-one}
-use mathlib.Core.Bool.{Bool, true, false, true≢false, not, _&&_}
-use mathlib.Core.List.{List, [], _∷_, _++_, append-assoc, append-nil, reverse, reverseAux, reverse-cons}
+use mathlib.Core.Bool.{Bool, true, false, true≢false, _&&_}
+use mathlib.Core.List.{[], _∷_, _++_, reverse, reverseAux, reverse-cons}
 use mathlib.Core.Option.{Option, none, some}
-use lib.ListN.{length, getD, set, drop, length-set, length-append, length-reverse, List·getD-eq-default}
-use lib.Seq.{set-out}
+use lib.ListN.{length, getD, set, drop, length-set, length-reverse}
 use lib.Dec.{eqb, ltb}
 use borrow.Author.Tests.{ltb-true, ltb-false, eq-eqb, ne-eqb, eqb-true}
 use Rattle.definition.specs.Base.{Bytes, if_then_else_}
@@ -26,7 +24,7 @@ use Rattle.definition.specs.declared.Style.{Style}
 use Rattle.definition.specs.declared.Style.the-variants.{Plain, Single, Double, Literal, Folded}
 use Rattle.laws.specs.Leaf.{scalar-same}
 use Rattle.pen.specs.declared.Writer.{Writer}
-use Rattle.pen.specs.Pen.{Pen, pen, columnAfter, put1, puts, puts-append, lineEnded, withInline, withRaw, noted, noteOf, rawed, unput, ended, ink}
+use Rattle.pen.specs.Pen.{Pen, pen, columnAfter, put1, puts, lineEnded, withInline, withRaw, noted, noteOf, rawed, unput, ended, ink}
 
 -- ---- bytes laid over what was there, as far as there is room; `back` is what is written, last byte first
 

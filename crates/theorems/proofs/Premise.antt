@@ -5,17 +5,16 @@ use mathlib.Core.Path.{_≡_, refl}
 use Prim.Native.Nat.{ℕ, _+_}
 use mathlib.Core.Bool.{Bool, true, false}
 use mathlib.Core.List.{List, [], _∷_, _++_}
-use mathlib.Core.Option.{Option, none, some}
+use mathlib.Core.Option.{some}
 use Rattle.definition.specs.Base.{Bytes}
 use Rattle.definition.specs.Tree.{Node, node, null, scalar, sequence, mapping, end, item, close, pair}
 use Rattle.definition.specs.Change.{Written}
-use Rattle.definition.specs.Calls.{Lent, Outcome, outcome, emitRoundtrip, emitRoundtripAllWith, collectChangedIncludeChanges, callLocalModified}
+use Rattle.definition.specs.Calls.{outcome, emitRoundtrip, collectChangedIncludeChanges, callLocalModified}
 use Rattle.definition.specs.Opened.{opened}
 use Rattle.definition.specs.declared.Style.the-variants.{Plain}
 use Rattle.definition.specs.declared.Form.the-variants.{Block}
-use Rattle.definition.specs.declared.NullStyle.the-variants.{Null}
 use Rattle.theorems.specs.Around.{near, near-null, near-scalar, near-close, near-pair, near-none, here, inside, in-mapping, this-value, this-document}
-use Rattle.theorems.specs.Answers.{bytesBack, filesBack, filesAt, Answered}
+use Rattle.theorems.specs.Answers.{bytesBack, filesBack, filesAt}
 use Rattle.theorems.specs.Demand3.{TwinDecks, same-bytes, writes-plain}
 use Rattle.theorems.proofs.Decks.{pool, word, tag, include, mark, pairs, items, lent, lentList, lentNothing, plain, included, brings, bare, wordAt}
 

@@ -1,7 +1,7 @@
 -- What a call that answers hands back, read off its outcome: the bytes up to its length, and each entry of its list with the bytes that it
 -- names. It is what the definitions of the documents and of the changes say, whatever the output and the list held at entry.
 use mathlib.Core.Path.{_≡_, refl, ap, ap₂, sym, subst, _∙_}
-use Prim.Native.Nat.{ℕ, _+_}
+use Prim.Native.Nat.{ℕ}
 use native.Mathlib.Omega.{arith}
 use mathlib.Core.Bool.{Bool, true, false, _||_}
 use mathlib.Core.List.{List, [], _∷_, _++_, append-assoc}
@@ -9,12 +9,12 @@ use lib.Dec.{ltb}
 use lib.ListN.{length, take, drop, length-append}
 use lib.Seq.{take-append-seam, drop-append-seam}
 use Rattle.definition.specs.Base.{Bytes, if_then_else_}
-use Rattle.definition.specs.Settings.{plainSettings, nullAs}
+use Rattle.definition.specs.Settings.{plainSettings}
 use Rattle.definition.specs.Tree.{Node}
 use Rattle.definition.specs.Document.{emitOne, emitAll}
 use Rattle.definition.specs.Change.{Written, collect, localModified}
-use Rattle.definition.specs.Deck.{Read, fault, got, readDeck}
-use Rattle.definition.specs.Calls.{Lent, Outcome, refused, noRoom, over, answered, handed, limited, onTrees, onOne, overTrees, entries, bytesOfAll, Call, emitRoundtrip, emitRoundtripWith, emitRoundtripAllWith, emitRoundtripDump, collectChangedIncludeChanges, callLocalModified, writeOne, writeAll, writeChanged, tellModified, outcome}
+use Rattle.definition.specs.Deck.{Read, got, readDeck}
+use Rattle.definition.specs.Calls.{Lent, Outcome, refused, noRoom, over, answered, handed, limited, onTrees, onOne, overTrees, entries, bytesOfAll, writeOne, writeAll, writeChanged, tellModified}
 use Rattle.definition.specs.declared.Cursor.{Cursor}
 use Rattle.definition.specs.declared.Settings.{Settings}
 use Rattle.definition.specs.declared.Change.{Change}

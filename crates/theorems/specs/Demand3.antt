@@ -11,23 +11,21 @@
 --
 -- The premise, `TwinDecks`, speaks of the trees that two decks are read into: of the fields of their records and of the text that references
 -- give. Of offsets and places it says nothing: texts may be shared or moved in the pool, and all that follows the include may stand elsewhere.
-use mathlib.Core.Path.{_≡_, refl, ap, sym, subst, _∙_}
+use mathlib.Core.Path.{_≡_, refl, sym, subst, _∙_}
 use mathlib.Core.Logic.{_↔_}
-use Prim.Native.Nat.{ℕ}
-use mathlib.Core.Bool.{Bool, true, false, true≢false}
-use mathlib.Core.List.{List, [], _∷_}
+use mathlib.Core.Bool.{Bool, false, true≢false}
+use mathlib.Core.List.{List}
 use lib.Dec.{T}
-use Rattle.definition.specs.Base.{Bytes, isNil}
+use Rattle.definition.specs.Base.{isNil}
 use Rattle.definition.specs.Settings.{plainSettings, nullAs}
 use Rattle.definition.specs.Tree.{Node}
-use Rattle.definition.specs.Document.{emitOne}
-use Rattle.definition.specs.Change.{Written, localModified, boundariesAll, collect}
-use Rattle.definition.specs.Deck.{Read, got, readDeck}
-use Rattle.definition.specs.Calls.{Lent, Outcome, Call, emitRoundtrip, emitRoundtripWith, emitRoundtripAllWith, emitRoundtripDump, collectChangedIncludeChanges, callLocalModified, writeOne, writeAll, writeChanged, tellModified, outcome}
+use Rattle.definition.specs.Change.{Written, localModified, collect}
+use Rattle.definition.specs.Deck.{got, readDeck}
+use Rattle.definition.specs.Calls.{Lent, Outcome, Call, emitRoundtrip, emitRoundtripWith, emitRoundtripAllWith, emitRoundtripDump, collectChangedIncludeChanges, callLocalModified, writeOne, writeAll, tellModified, outcome}
 use Rattle.definition.specs.declared.NullStyle.{NullStyle}
 use Rattle.definition.specs.declared.Settings.{Settings}
 use Rattle.definition.specs.declared.Cursor.{Cursor}
-use Rattle.theorems.specs.Around.{Near, NearAll, near-none, near-more, Twin, here, inside, Under, TwinAll, this-document, later-document, SameAsFile, Along, AlongUnder, AlongAll, Touched}
+use Rattle.theorems.specs.Around.{near-none, Twin, here, inside, TwinAll, this-document, later-document, SameAsFile, AlongAll, Touched}
 use Rattle.theorems.specs.Order.{Ordered, OrderedAll, ordered-first}
 use Rattle.theorems.specs.DeckOrder.{read-ordered}
 use Rattle.theorems.specs.Twin.{SameAround, same-around, same-document, inside-local}

@@ -1,24 +1,22 @@
 -- What trees that are near each other come to: the bytes of their documents and files, whether they are changed, and their includes.
-use mathlib.Core.Path.{_≡_, refl, ap, ap₂, sym, subst, _∙_}
-use Prim.Native.Nat.{ℕ, suc}
+use mathlib.Core.Path.{_≡_, refl, ap, ap₂}
+use Prim.Native.Nat.{ℕ}
 use mathlib.Core.Bool.{Bool, true, false, true≢false, not, _&&_, _||_}
-use mathlib.Core.List.{List, [], _∷_, _++_, append-assoc, append-nil}
+use mathlib.Core.List.{List, _++_}
 use mathlib.Core.Option.{Option, none, some}
-use Rattle.definition.specs.Base.{Bytes, if_then_else_, isNil}
+use Rattle.definition.specs.Base.{isNil}
 use Rattle.definition.specs.Settings.{plainSettings}
-use Rattle.definition.specs.Tree.{Source, Kept, Brought, Node, Kind, Nodes, Pairs, node, null, scalar, alias, sequence, mapping, end, item, close, pair, kept, place}
-use Rattle.definition.specs.Pen.{Script, put, _>>_, nothing}
+use Rattle.definition.specs.Tree.{Source, Kept, Brought, Node, Kind, Nodes, Pairs, node, kept}
 use Rattle.definition.specs.Walk.{included}
 use Rattle.definition.specs.Document
 use Rattle.definition.specs.Change.{localModified, localIn, localItems, localPairs, Boundary, withId, ownBoundary, boundaries, boundariesIn, boundariesItems, boundariesPairs, boundariesAll}
 use Rattle.definition.specs.declared.Settings.{Settings}
-use Rattle.definition.specs.declared.Form.the-variants.{Block}
-use Rattle.theorems.specs.Around.{Faithful, AnyPlaces, Near, swap, near, NearKind, near-null, near-scalar, near-alias, near-sequence, near-mapping, block-sequence, block-mapping, NearItems, near-end, near-item, NearPairs, near-close, near-pair, NearAll, near-none, near-more, SameFile, SameFiles, no-files, more-files}
-use Rattle.theorems.specs.Like.{Like, _⨾_, like-put, like-bytes}
+use Rattle.theorems.specs.Around.{Faithful, AnyPlaces, Near, swap, near, NearKind, near-null, near-scalar, near-alias, near-sequence, near-mapping, block-sequence, block-mapping, NearItems, near-end, near-item, NearPairs, near-close, near-pair, NearAll, near-none, near-more, SameFiles, no-files, more-files}
+use Rattle.theorems.specs.Like.{Like, _⨾_, like-bytes}
 use Rattle.theorems.specs.Still.{like-still, still-if, still-nothing, still-put, still-dashes, still-dots}
 use Rattle.theorems.specs.Renaming.{near-kept, like-document, like-root}
 use Rattle.theorems.specs.Order.{Rising, RisingIn, RisingItems, RisingPairs, RisingAll, Ordered, OrderedAll}
-use Rattle.theorems.specs.Places.{Pairing, pair-near, pair-node, pair-all}
+use Rattle.theorems.specs.Places.{pair-near, pair-node, pair-all}
 
 -- ---- bytes, with places paired
 

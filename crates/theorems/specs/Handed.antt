@@ -1,14 +1,13 @@
 -- The changed test against a predicate of its own, and the files that are handed back of two lists of includes that are the same but for one.
-use mathlib.Core.Path.{_≡_, refl, ap, sym, subst, _∙_}
+use mathlib.Core.Path.{_≡_, refl, ap}
 use mathlib.Core.Logic.{_↔_}
-use Prim.Native.Nat.{ℕ}
 use mathlib.Core.Bool.{Bool, true, false, not, _&&_, _||_}
 use mathlib.Core.List.{List, [], _∷_, _++_}
 use lib.Dec.{T}
 use Rattle.definition.specs.Base.{if_then_else_}
-use Rattle.definition.specs.Tree.{Kept, Brought, Node, Kind, Nodes, Pairs, node, null, scalar, alias, sequence, mapping, end, item, close, pair, kept}
+use Rattle.definition.specs.Tree.{Node, Kind, Nodes, Pairs, node, null, scalar, alias, sequence, mapping, end, item, close, pair, kept}
 use Rattle.definition.specs.Walk.{included}
-use Rattle.definition.specs.Change.{localModified, localIn, localItems, localPairs, Boundary, boundaries, boundariesAll, Written, writtenOf, changed, collect}
+use Rattle.definition.specs.Change.{localModified, localIn, localItems, localPairs, Boundary, boundaries, Written, writtenOf, changed}
 use Rattle.theorems.specs.Around.{Touched, on, below, TouchedIn, through-items, through-pairs, TouchedItems, by-item, next-item, TouchedPairs, by-key, by-value, next-pair, SameFile, SameFiles, no-files, more-files, SameBut}
 use Rattle.theorems.specs.Files.{inner}
 

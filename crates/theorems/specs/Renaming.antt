@@ -1,22 +1,21 @@
 -- The renaming law: trees that are near each other, their places paired one to one, have alike scripts, also where an include that is
 -- reached through block collections brought in other things: of it only the directive is written.
-use mathlib.Core.Path.{_≡_, refl, ap, ap₂, sym, subst, _∙_}
+use mathlib.Core.Path.{_≡_, refl, ap, ap₂, subst}
 use Prim.Native.Nat.{ℕ, _+_}
 use mathlib.Core.Bool.{Bool, true, false, true≢false, not, _&&_, _||_}
 use mathlib.Core.Option.{Option, none, some}
 use Rattle.definition.specs.Base.{Bytes, if_then_else_, isSome}
 use Rattle.definition.specs.Ascii.{SP, '-'}
 use Rattle.definition.specs.Settings.{stepOf}
-use Rattle.definition.specs.Tree.{Kept, Brought, Node, Kind, Nodes, Pairs, node, null, scalar, alias, sequence, mapping, end, item, close, pair, kept, brought, place, kind}
-use Rattle.definition.specs.Pen.{Script, put, endLine, comment, replay, leaf, comma, _>>_, nothing, newline, indent, sign}
+use Rattle.definition.specs.Tree.{Kept, Brought, Node, Kind, Nodes, Pairs, node, kept, brought, place}
+use Rattle.definition.specs.Pen.{Script, comment, _>>_, nothing, sign}
 use Rattle.definition.specs.Walk
 use Rattle.definition.specs.Document
 use Rattle.definition.specs.declared.Settings.{Settings}
 use Rattle.definition.specs.declared.Style.{Style}
-use Rattle.definition.specs.declared.Form.the-variants.{Block}
 use Rattle.theorems.specs.Around.{Faithful, Near, swap, near, NearKind, near-null, near-scalar, near-alias, near-sequence, near-mapping, block-sequence, block-mapping, NearItems, near-end, near-item, NearPairs, near-close, near-pair}
 use Rattle.theorems.specs.Like.{Like, _⨾_, like-put, like-end, like-leaf, like-comma, like-replay, like-when, like-if, like-unless, like-comment}
-use Rattle.theorems.specs.Still.{like-still, still-if, still-nothing, still-newline, still-indent, still-sign, still-put, still-then, still-heads, still-below, still-foots, still-blanks, still-aboveDash, still-belowDash, still-props, still-compact, still-line, still-colon, still-directives, still-dashes}
+use Rattle.theorems.specs.Still.{like-still, still-if, still-nothing, still-newline, still-indent, still-sign, still-then, still-heads, still-below, still-foots, still-blanks, still-aboveDash, still-belowDash, still-props, still-compact, still-line, still-directives, still-dashes}
 
 module _ {R : ℕ → ℕ → Type 0} where
   -- ---- what a node shows without what is below it

@@ -1,11 +1,11 @@
 -- Scripts in which no inline comment is written are alike with themselves: what is written of a node's comments, tags and marks.
-use mathlib.Core.Path.{_≡_, refl}
+use mathlib.Core.Path.{refl}
 use Prim.Native.Nat.{ℕ}
 use mathlib.Core.Bool.{Bool, true, false}
 use mathlib.Core.List.{List, [], _∷_}
 use mathlib.Core.Option.{Option, none, some}
 use Rattle.definition.specs.Base.{Bytes, if_then_else_}
-use Rattle.definition.specs.Tree.{Kept, Brought, Node, Kind, null, scalar, alias, sequence, mapping}
+use Rattle.definition.specs.Tree.{Kept, Brought, Kind, null, scalar, alias, sequence, mapping}
 use Rattle.definition.specs.Pen.{Ink, Script, put, endLine, _>>_, nothing, newline, indent, sign}
 use Rattle.definition.specs.Walk
 use Rattle.definition.specs.Document

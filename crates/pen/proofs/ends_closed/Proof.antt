@@ -1,7 +1,5 @@
 use borrow.Author.Tests.{eq-eqb, ne-eqb}
 use native.Mathlib.Omega.{arith}
-use Prim.Native.Nat.{_<_}
-use lib.ListN.{length}
 use Rattle.pen.proofs.Laws.{nothing-open, last-closed}
 use borrow.Author.Needs.{needs}
 use Rattle.pen.proofs.ends_closed.Statement.{statement}

@@ -1,9 +1,9 @@
-use mathlib.Core.Path.{_≡_, ap, _∙_}
+use mathlib.Core.Path.{ap}
 use Prim.Native.Nat.{_+_}
 use borrow.Author.Tests.{eq-eqb, ne-eqb}
 use Rattle.definition.specs.Base.{spaces}
 use Rattle.definition.specs.Pen.{hashed, inlineText}
-use Rattle.pen.specs.Pen.{Pen, pen, puts, and-then, noted, withInline}
+use Rattle.pen.specs.Pen.{Pen, pen, and-then, noted, withInline}
 use borrow.Author.Needs.{needs}
 use Rattle.pen.proofs.Writer.comment.Statement.{statement}
 use Rattle.pen.proofs.Writer.comment.Tie as tie

@@ -1,4 +1,4 @@
-use mathlib.Core.Path.{_≡_, ap, _∙_}
+use mathlib.Core.Path.{ap, _∙_}
 use Rattle.pen.specs.Pen.{Pen, puts, put1}
 use Rattle.pen.proofs.Laws.{hashed-nothing, hashed-text}
 use borrow.Author.Needs.{needs}

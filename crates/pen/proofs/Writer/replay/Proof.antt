@@ -1,7 +1,7 @@
-use mathlib.Core.Path.{_≡_, ap, sym, _∙_}
+use mathlib.Core.Path.{ap}
 use Prim.Native.Nat.{_+_, _≤_, _^_}
 use native.Mathlib.Omega.{arith}
-use Rattle.pen.specs.Pen.{Pen, pen, puts, rawed, withRaw}
+use Rattle.pen.specs.Pen.{Pen, pen, rawed, withRaw}
 use Rattle.pen.proofs.Laws.{puts-count}
 use borrow.Author.Needs.{needs}
 use Rattle.pen.proofs.Writer.replay.Statement.{statement}
