@@ -41,21 +41,21 @@ module _ (deck : Bytes) (c : Cursor) (k : ℕ) (f : k ≡ kindAt deck c) where
   unfolding kidsOf recordAt recordOf groupAt
   kids-mapping w e h = let s : c .at + 1 + 1 ≡ c .at + 2 = omega arith in rw (← f, h, s, ← e, twice-is)
 
-  pub kids-other : k < 256 → (k ≡ 0x23 → ⊥) → (k ≡ 0x24 → ⊥) → 0 ≡ kidsOf (recordAt deck c)
+  pub kids-other : (k ≡ 0x23 → ⊥) → (k ≡ 0x24 → ⊥) → 0 ≡ kidsOf (recordAt deck c)
   unfolding recordAt
-  kids-other h p q = rw (← f, no-kids deck (c .at + 1) k h p q)
+  kids-other p q = rw (← f, no-kids deck (c .at + 1) k p q)
 
-  pub leads : k < 256 → 1 ≤ k → k < 10 → false ≡ isNode (recordAt deck c)
+  pub leads : 1 ≤ k → k < 10 → false ≡ isNode (recordAt deck c)
   unfolding recordAt within
-  leads h p q = let r : k ≤ 9 = omega arith in rw (← f, node-kind deck (c .at + 1) k h, le-leb 1 k p, le-leb k 9 r)
+  leads p q = let r : k ≤ 9 = omega arith in rw (← f, node-kind deck (c .at + 1) k, le-leb 1 k p, le-leb k 9 r)
 
-  pub owns-low : k < 256 → k < 1 → true ≡ isNode (recordAt deck c)
+  pub owns-low : k < 1 → true ≡ isNode (recordAt deck c)
   unfolding recordAt within
-  owns-low h p = rw (← f, node-kind deck (c .at + 1) k h, lt-leb 1 k p)
+  owns-low p = rw (← f, node-kind deck (c .at + 1) k, lt-leb 1 k p)
 
-  pub owns-high : k < 256 → 1 ≤ k → 10 ≤ k → true ≡ isNode (recordAt deck c)
+  pub owns-high : 1 ≤ k → 10 ≤ k → true ≡ isNode (recordAt deck c)
   unfolding recordAt within
-  owns-high h p q = let r : 9 < k = omega arith in rw (← f, node-kind deck (c .at + 1) k h, le-leb 1 k p, lt-leb k 9 r)
+  owns-high p q = let r : 9 < k = omega arith in rw (← f, node-kind deck (c .at + 1) k, le-leb 1 k p, lt-leb k 9 r)
 
 -- ---- a part of a slice
 

@@ -1,12 +1,12 @@
 -- How many nodes follow a record as its children, and what a record's kind says of it.
-use Prim.Native.Nat.{ℕ, zero, suc, _<_}
-use mathlib.Core.Path.{_≡_, refl, sym, subst}
+use Prim.Native.Nat.{ℕ, zero, suc, _<_, _≤_}
+use mathlib.Core.Path.{_≡_, refl, sym, ap, _∙_, subst}
 use mathlib.Core.Bool.{Bool, true, false, not, _&&_, _||_}
 use mathlib.Core.Logic.{⊎-elim}
 use native.Mathlib.Nat.{eq-or-lt-of-le, not-suc-le-zero, le-of-suc-le-suc}
 use native.Mathlib.Omega.{arith}
-use lib.Dec.{T, eqb, eqb→eq}
-use borrow.Author.Tests.{ne-eqb}
+use lib.Dec.{T, eqb, ltb, eqb→eq}
+use borrow.Author.Tests.{ne-eqb, ltb-true, ltb-false, le-leb, lt-leb}
 use Rattle.definition.specs.Base.{Bytes, within}
 use Rattle.definition.specs.Records.{recordOf}
 use Rattle.definition.specs.Deck.{isNode}
@@ -46,7 +46,7 @@ abbrev below : (ℕ → Bool) → ℕ → Bool
 below f zero = true
 below f (suc n) = f n && below f n
 
--- a rule of a byte is proved at all 256 by one test that is computed
+-- a rule of small numbers is proved at all of them by one test that is computed
 all : (f : ℕ → Bool) (n : ℕ) → T (below f n) → (k : ℕ) → k < n → T (f k)
 all f zero t k h = absurd (not-suc-le-zero h)
 all f (suc n) t k h =
@@ -70,15 +70,51 @@ third true y n p q t = let z : _≡_ {A = ℕ} 0 1 = cc in absurd (omega arith)
 third false true n p q t = let z : _≡_ {A = ℕ} 0 1 = cc in absurd (omega arith)
 third false false n p q t = eqb→eq n 0 t
 
-module _ (deck : Bytes) (at k : ℕ) (byte : k < 256) where
+module _ (deck : Bytes) (at k : ℕ) where
+  -- past the last kind every record is null
+  beyond : 0x24 < k → recordOf k deck at ≡ is.Null
+  unfolding recordOf
+  beyond h =
+      rw (
+        other 0x01 (omega arith),
+        other 0x02 (omega arith),
+        other 0x03 (omega arith),
+        other 0x04 (omega arith),
+        other 0x05 (omega arith),
+        other 0x06 (omega arith),
+        other 0x07 (omega arith),
+        other 0x08 (omega arith),
+        other 0x09 (omega arith),
+        other 0x21 (omega arith),
+        other 0x22 (omega arith),
+        other 0x23 (omega arith),
+        other 0x24 (omega arith),
+      )
+    where
+      other : (n : ℕ) → n < k → eqb k n ≡ false
+      other n l = ne-eqb k n (λ e. absurd (omega arith))
+
+  -- a rule of the kinds up to the last, computed, and of a null
+  by-kind : {P : Type 0} → (k < 0x25 → P) → (0x24 < k → P) → P
+  by-kind {P} f g = go (ltb k 0x25) refl
+    where
+      go : (b : Bool) → ltb k 0x25 ≡ b → P
+      go true e = f (ltb-true _ _ e)
+      go false e = let h : 0x25 ≤ k = ltb-false _ _ e in g (omega arith)
+
   -- kinds 01 to 09 lead, every other is a node's own
   pub node-kind : isNode (recordOf k deck at) ≡ not (within 1 9 k)
   unfolding isNode recordOf within
-  node-kind = alike-is (isNode (recordOf k deck at)) (not (within 1 9 k)) (all (λ n. alike (isNode (recordOf n deck at)) (not (within 1 9 n))) 256 tt k byte)
+  node-kind =
+      by-kind
+      (λ h. alike-is (isNode (recordOf k deck at)) (not (within 1 9 k)) (all (λ n. alike (isNode (recordOf n deck at)) (not (within 1 9 n))) 0x25 tt k h))
+      (λ h. let l : 1 ≤ k = omega arith in let u : 9 < k = omega arith in ap isNode (beyond h) ∙ sym (rw (le-leb 1 k l, lt-leb k 9 u)))
 
   -- only kinds 23 and 24 have children
   pub no-kids : (k ≡ 0x23 → ⊥) → (k ≡ 0x24 → ⊥) → kidsOf (recordOf k deck at) ≡ 0
   unfolding recordOf kidsOf
   no-kids p q =
-      third (eqb k 0x23) (eqb k 0x24) (kidsOf (recordOf k deck at)) (ne-eqb k 0x23 p) (ne-eqb k 0x24 q)
-      (all (λ n. eqb n 0x23 || eqb n 0x24 || eqb (kidsOf (recordOf n deck at)) 0) 256 tt k byte)
+      by-kind
+      (λ h. third (eqb k 0x23) (eqb k 0x24) (kidsOf (recordOf k deck at)) (ne-eqb k 0x23 p) (ne-eqb k 0x24 q)
+      (all (λ n. eqb n 0x23 || eqb n 0x24 || eqb (kidsOf (recordOf n deck at)) 0) 0x25 tt k h))
+      (λ h. ap kidsOf (beyond h))

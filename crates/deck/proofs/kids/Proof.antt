@@ -30,7 +30,7 @@ returns-2 : tie.Need-returns-2
 returns-2 c = (kids-mapping (c .before .before .before .before .before .args .deck .now) (c .before .before .before .before .before .args .c) _ (c .before .before .before .kind .ensures .0) _ (c .word2 .ensures .0) (c .before .before .match .keys2), omega arith)
 
 returns-3 : tie.Need-returns-3
-returns-3 c = (kids-other (c .before .before .before .args .deck .now) (c .before .before .before .args .c) _ (c .before .kind .ensures .0) (c .before .kind .ensures .1) (c .match .rest .0 .1) (c .match .rest .1), omega arith)
+returns-3 c = (kids-other (c .before .before .before .args .deck .now) (c .before .before .before .args .c) _ (c .before .kind .ensures .0) (c .match .rest .0 .1) (c .match .rest .1), omega arith)
 
 pub kids-spec : {M : Type 1} → statement M
 kids-spec =
