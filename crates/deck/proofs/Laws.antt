@@ -1,0 +1,68 @@
+-- Laws of the cursor after a record, and of what a record's kind says.
+use mathlib.Core.Path.{_≡_, refl, sym, ap, _∙_}
+use mathlib.Core.Bool.{true, false}
+use mathlib.Core.List.{[]}
+use Prim.Native.Nat.{ℕ, zero, suc, _+_, _-_, _*_, _<_, _≤_}
+use native.Mathlib.Omega.{arith}
+use native.Mathlib.Nat.{min-eq-left, min-eq-right, le-of-lt}
+use lib.ListN.{length, take, drop, length-drop, drop-of-length-le}
+use lib.Seq.{take-all, take-nil}
+use borrow.Author.Tests.{le-leb, lt-leb}
+use Rattle.definition.specs.Base.{Bytes, within}
+use Rattle.definition.specs.declared.Cursor.{Cursor}
+use Rattle.definition.specs.Records.{kindAt, wordAt, sizeOf, past, recordAt, recordOf, groupAt}
+use Rattle.definition.specs.Deck.{isNode}
+use Rattle.deck.specs.Next.{nextOf}
+use Rattle.deck.specs.Kids.{kidsOf, twice, node-kind, no-kids}
+
+abbrev at-place : ℕ → Cursor
+at-place n = record { at = n }
+
+module _ (deck : Bytes) (c : Cursor) (k n : ℕ) (f : k ≡ kindAt deck c) (e : n ≡ sizeOf k) where
+  pub next-in : c .at + n < length deck → at-place (c .at + n) ≡ nextOf deck c
+  unfolding nextOf past
+  next-in h = rw (← f, ← e, min-eq-left (le-of-lt h))
+
+  pub next-out : length deck ≤ c .at + n → at-place (length deck) ≡ nextOf deck c
+  unfolding nextOf past
+  next-out h = rw (← f, ← e, min-eq-right h)
+
+twice-is : (n : ℕ) → 2 * n ≡ twice n
+unfolding twice
+twice-is zero = refl
+twice-is (suc n) = let e : 2 * n ≡ twice n = twice-is n in omega arith
+
+module _ (deck : Bytes) (c : Cursor) (k : ℕ) (f : k ≡ kindAt deck c) where
+  pub kids-sequence : (w : ℕ) → w ≡ wordAt deck (c .at + 2) → k ≡ 0x23 → w ≡ kidsOf (recordAt deck c)
+  unfolding kidsOf recordAt recordOf groupAt
+  kids-sequence w e h = let s : c .at + 1 + 1 ≡ c .at + 2 = omega arith in rw (e, ← f, h, s)
+
+  pub kids-mapping : (w : ℕ) → w ≡ wordAt deck (c .at + 2) → k ≡ 0x24 → 2 * w ≡ kidsOf (recordAt deck c)
+  unfolding kidsOf recordAt recordOf groupAt
+  kids-mapping w e h = let s : c .at + 1 + 1 ≡ c .at + 2 = omega arith in rw (← f, h, s, ← e, twice-is)
+
+  pub kids-other : (k ≡ 0x23 → ⊥) → (k ≡ 0x24 → ⊥) → 0 ≡ kidsOf (recordAt deck c)
+  unfolding recordAt
+  kids-other p q = rw (← f, no-kids deck (c .at + 1) k p q)
+
+  pub leads : 1 ≤ k → k < 10 → false ≡ isNode (recordAt deck c)
+  unfolding recordAt within
+  leads p q = let r : k ≤ 9 = omega arith in rw (← f, node-kind deck (c .at + 1) k, le-leb 1 k p, le-leb k 9 r)
+
+  pub owns-low : k < 1 → true ≡ isNode (recordAt deck c)
+  unfolding recordAt within
+  owns-low p = rw (← f, node-kind deck (c .at + 1) k, lt-leb 1 k p)
+
+  pub owns-high : 1 ≤ k → 10 ≤ k → true ≡ isNode (recordAt deck c)
+  unfolding recordAt within
+  owns-high p q = let r : 9 < k = omega arith in rw (← f, node-kind deck (c .at + 1) k, le-leb 1 k p, lt-leb k 9 r)
+
+-- ---- a part of a slice
+
+pub long : (s : Bytes) (start len : ℕ) → length s - start < len → take (length s - start) (drop start s) ≡ take len (drop start s)
+long s start len h =
+    let e : length (drop start s) ≡ length s - start = length-drop start s in
+    take-all (length s - start) (drop start s) (omega arith) ∙ sym (take-all len (drop start s) (omega arith))
+
+pub gone : (s : Bytes) (start len : ℕ) → length s < start → [] ≡ take len (drop start s)
+gone s start len h = let l : length s ≤ start = omega arith in sym (ap (take len) (drop-of-length-le s l) ∙ take-nil len)

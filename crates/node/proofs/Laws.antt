@@ -1,0 +1,139 @@
+-- Laws of the head and of where a subtree ends.
+use mathlib.Core.Path.{_≡_, refl, sym, ap, _∙_}
+use Prim.Native.Nat.{ℕ, zero, suc, _+_, _-_, _<_, _≤_}
+use native.Mathlib.Omega.{arith}
+use mathlib.Core.Bool.{Bool, true, false}
+use lib.ListN.{length}
+use borrow.Author.Tests.{eq-eqb, ne-eqb}
+use Rattle.definition.specs.Base.{Bytes}
+use Rattle.definition.specs.Records.{recordAt}
+use Rattle.definition.specs.Deck.{isNode}
+use Rattle.definition.specs.declared.Cursor.{Cursor}
+use Rattle.definition.specs.declared.Record.{Record}
+use Rattle.definition.specs.declared.Record.the-variants as is
+use Rattle.deck.specs.Next.{nextOf}
+use Rattle.deck.specs.Kids.{kidsOf}
+use Rattle.node.specs.declared.Run.{Run}
+use Rattle.node.specs.declared.Lead.{Lead}
+use Rattle.node.specs.declared.Head.{Head}
+use Rattle.node.specs.Head.{onto, noLead, addTo, Small, headed, headFrom, headAt, ownFrom}
+use Rattle.node.specs.Total.{treeAt}
+use Rattle.node.specs.Fuel.{nexts, head-at-onward, next-within, own-is, tree-next}
+
+-- ---- runs
+
+pub onto-first : (r : Run) (c : Cursor) → r .count ≡ 0 → record { first = c; count = 1 } ≡ onto r c
+unfolding onto
+onto-first r c e = rw (eq-eqb (r .count) 0 e, e)
+
+pub onto-later : (r : Run) (c : Cursor) → (r .count ≡ 0 → ⊥) → record { first = r .first; count = r .count + 1 } ≡ onto r c
+unfolding onto
+onto-later r c e = rw (ne-eqb (r .count) 0 e)
+
+pub small-fits : {n : ℕ} {l : Lead} (m : ℕ) → n ≤ m → Small n l → Small m l
+small-fits m h s = record { heads = omega arith; foots = omega arith; directives = omega arith }
+
+pub small-none : (m : ℕ) (l : Lead) → l ≡ noLead → Small m l
+small-none m l e = rw e (record { heads = omega arith; foots = omega arith; directives = omega arith })
+
+small-more : {n : ℕ} {l : Lead} (r : Record) (c : Cursor) → Small n l → Small (n + 1) (addTo r c l)
+unfolding addTo onto
+small-more (is.Tag t) c s = record { heads = omega arith; foots = omega arith; directives = omega arith }
+small-more (is.Anchor t) c s = record { heads = omega arith; foots = omega arith; directives = omega arith }
+small-more (is.Source i) c s = record { heads = omega arith; foots = omega arith; directives = omega arith }
+small-more (is.Head h) c s = record { heads = omega arith; foots = omega arith; directives = omega arith }
+small-more (is.Inline t) c s = record { heads = omega arith; foots = omega arith; directives = omega arith }
+small-more (is.Foot t) c s = record { heads = omega arith; foots = omega arith; directives = omega arith }
+small-more (is.Raw t) c s = record { heads = omega arith; foots = omega arith; directives = omega arith }
+small-more (is.Directive t) c s = record { heads = omega arith; foots = omega arith; directives = omega arith }
+small-more (is.Layout t) c s = record { heads = omega arith; foots = omega arith; directives = omega arith }
+small-more is.Null c s = small-fits _ (omega arith) s
+small-more (is.Scalar t) c s = small-fits _ (omega arith) s
+small-more (is.Alias t) c s = small-fits _ (omega arith) s
+small-more (is.Sequence t) c s = small-fits _ (omega arith) s
+small-more (is.Mapping t) c s = small-fits _ (omega arith) s
+
+pub small-step :
+    (len left : ℕ) (l m : Lead) (r : Record) (c : Cursor) →
+    0 < left → left ≤ len → Small (len - left) l → m ≡ addTo r c l → Small (len - (left - 1)) m
+small-step len left l m r c h k s e = rw e (small-fits {n = len - left + 1} _ (omega arith) (small-more r c s))
+
+-- ---- a head
+
+module _ (deck : Bytes) where
+  pub next-in : (c n : Cursor) → n ≡ nextOf deck c → n .at ≤ length deck
+  next-in c n e = rw e (next-within deck c)
+
+  pub head-stop : (n : ℕ) (l : Lead) (c : Cursor) (b : Bool) → b ≡ isNode (recordAt deck c) → b ≡ true → headed deck l c ≡ headFrom deck n l c
+  unfolding headFrom
+  head-stop zero l c b e t = refl
+  head-stop (suc n) l c b e t = rw (← e, t)
+
+  pub head-more :
+      (n : ℕ) (l m : Lead) (c next : Cursor) (b : Bool) (r : Record) →
+      0 < n → b ≡ isNode (recordAt deck c) → b ≡ false → r ≡ recordAt deck c → next ≡ nextOf deck c → m ≡ addTo r c l →
+      headFrom deck (n - 1) m next ≡ headFrom deck n l c
+  unfolding headFrom
+  head-more zero l m c next b r h e f g x a = absurd (omega arith)
+  head-more (suc n) l m c next b r h e f g x a = let s : suc n - 1 ≡ n = omega arith in rw (s, ← e, f, a, g, x)
+
+  pub head-done : (n : ℕ) (l : Lead) (c : Cursor) → n ≡ 0 → headed deck l c ≡ headFrom deck n l c
+  unfolding headFrom
+  head-done n l c e = rw e
+
+  pub head-is : (l : Lead) (c : Cursor) → l ≡ noLead → headFrom deck (length deck) l c ≡ headAt deck c
+  unfolding headAt
+  head-is l c e = rw e
+
+  -- ---- its own record's place
+
+  pub own-stop : (n : ℕ) (c : Cursor) (b : Bool) → b ≡ isNode (recordAt deck c) → b ≡ true → c ≡ ownFrom deck n c
+  unfolding ownFrom
+  own-stop zero c b e t = refl
+  own-stop (suc n) c b e t = rw (← e, t)
+
+  pub own-more : (n : ℕ) (c next : Cursor) (b : Bool) → 0 < n → b ≡ isNode (recordAt deck c) → b ≡ false → next ≡ nextOf deck c → ownFrom deck (n - 1) next ≡ ownFrom deck n c
+  unfolding ownFrom
+  own-more zero c next b h e f x = absurd (omega arith)
+  own-more (suc n) c next b h e f x = let s : suc n - 1 ≡ n = omega arith in rw (s, ← e, f, x)
+
+  pub own-done : (n : ℕ) (c : Cursor) → n ≡ 0 → c ≡ ownFrom deck n c
+  unfolding ownFrom
+  own-done n c e = rw e
+
+  pub own-place : (c : Cursor) → ownFrom deck (length deck) c ≡ headAt deck c .place
+  own-place c = sym (own-is deck c)
+
+-- ---- where a subtree ends
+
+module _ (deck : Bytes) (c : Cursor) (k : c .at ≤ length deck) (p : Cursor) (e : p ≡ headAt deck c .place) where
+  pub own-within : p .at ≤ length deck
+  own-within = let o = head-at-onward deck c k in rw e (omega (arith, o .beyond, o .within))
+
+  kids-are : (n : ℕ) → n ≡ kidsOf (recordAt deck p) → n ≡ kidsOf (headAt deck c .own)
+  kids-are n q = q ∙ ap (λ (x : Cursor). kidsOf (recordAt deck x)) e ∙ ap kidsOf (sym (head-at-onward deck c k .own))
+
+  next-is : (x : Cursor) → x ≡ nextOf deck p → x ≡ headAt deck c .next
+  next-is x q = q ∙ ap (nextOf deck) e ∙ sym (head-at-onward deck c k .next)
+
+  pub child-after : (x : Cursor) (n : ℕ) → x ≡ nextOf deck p → n ≡ kidsOf (recordAt deck p) → 0 < n → c .at < x .at
+  child-after x n f q h =
+      let o = head-at-onward deck c k in
+      let y : n ≡ kidsOf (headAt deck c .own) = kids-are n q in
+      let s = o .kids (λ z. absurd (omega arith)) in
+      rw (next-is x f) (omega (arith, o .ahead, s))
+
+  pub end-onward : (x : Cursor) → x ≡ nextOf deck p → c .at ≤ x .at
+  end-onward x f = let o = head-at-onward deck c k in rw (next-is x f) (omega (arith, o .ahead, o .beyond))
+
+  pub end-tree : (pool : Bytes) (x : Cursor) (n : ℕ) → x ≡ nextOf deck p → n ≡ kidsOf (recordAt deck p) → nexts (λ d. treeAt deck pool d .next) n x ≡ treeAt deck pool c .next
+  end-tree pool x n f q = rw (kids-are n q, next-is x f) (sym (tree-next deck pool c k))
+
+pub nexts-more : (f : Cursor → Cursor) (n : ℕ) (c e : Cursor) → 0 < n → e ≡ f c → nexts f (n - 1) e ≡ nexts f n c
+unfolding nexts
+nexts-more f zero c e h q = absurd (omega arith)
+nexts-more f (suc n) c e h q = let s : suc n - 1 ≡ n = omega arith in rw (s, q)
+
+pub nexts-done : (f : Cursor → Cursor) (n : ℕ) (c : Cursor) → n ≡ 0 → c ≡ nexts f n c
+unfolding nexts
+nexts-done f n c e = rw e

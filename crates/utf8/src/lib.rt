@@ -1,0 +1,157 @@
+// Well-formed UTF-8, after the Unicode Standard, table 3-7.
+ghost use mathlib.Core.Path.{_≡_};
+ghost use mathlib.Core.Bool.{true, false};
+ghost use Prim.Native.Nat.{_+_, _≤_};
+ghost use lib.ListN.{length, drop, take};
+ghost use Rattle.definition.specs.Utf8.{isFirst, due, low, high, wellFormed};
+ghost use Rattle.utf8.specs.Chars.{more, charLen, leadingOnes, boundary};
+
+// The number of leading ones of a byte: the leading zeros of its complement.
+pub fn leading_ones(b: u8) -> u32
+    ensures { λ r. ⌜ r ≡ leadingOnes b ⌝ }
+{
+    u8::leading_zeros(!b)
+}
+
+// Whether a character can begin with a byte.
+fn is_first(b: u8) -> bool
+    ensures { λ r. ⌜ r ≡ isFirst b ⌝ }
+{
+    match b {
+        0x00..=0x7f => true,
+        0xc2..=0xf4 => true,
+        _ => false,
+    }
+}
+
+// How many bytes are due after a first byte.
+fn due_after(b: u8) -> usize
+    ensures { λ r. ⌜ r ≡ due b ⌝ }
+{
+    match leading_ones(b) {
+        0..=1 => 0,
+        2 => 1,
+        3 => 2,
+        _ => 3,
+    }
+}
+
+// The second byte of a character lies from here,
+fn lowest(b: u8) -> u8
+    ensures { λ r. ⌜ r ≡ low b ⌝ }
+{
+    match b {
+        0xe0 => 0xa0,
+        0xf0 => 0x90,
+        _ => 0x80,
+    }
+}
+
+// to here.
+fn highest(b: u8) -> u8
+    ensures { λ r. ⌜ r ≡ high b ⌝ }
+{
+    match b {
+        0xed => 0x9f,
+        0xf4 => 0x8f,
+        _ => 0xbf,
+    }
+}
+
+// Whether the bytes that are due stand at a place, the first of them from `low` to `high`.
+fn continues(s: &[u8], at: usize, count: usize, low: u8, high: u8) -> bool
+    requires { ⌜ at ≤ length (now s) ⌝ }
+    ensures { λ r. ⌜ r ≡ more count low high (drop at (now (s .entry))) ⌝ }
+{
+    let mut i = at;
+    let mut left = count;
+    let mut l = low;
+    let mut h = high;
+    while left > 0 {
+        if s.len() <= i {
+            return false;
+        }
+        let b = s[i];
+        if b < l {
+            return false;
+        }
+        if h < b {
+            return false;
+        }
+        i += 1;
+        left -= 1;
+        l = 0x80;
+        h = 0xbf;
+    }
+    true
+}
+
+// How many bytes the character at a place has: none where no well-formed one stands there.
+pub fn char_len(s: &[u8], at: usize) -> usize
+    requires { ⌜ at ≤ length (now s) ⌝ }
+    ensures { λ r. ⌜ r ≡ charLen (drop at (now (s .entry))) ⌝ }
+{
+    if s.len() <= at {
+        return 0;
+    }
+    let b = s[at];
+    if is_first(b) {
+        let k = due_after(b);
+        if continues(s, at + 1, k, lowest(b), highest(b)) {
+            return k + 1;
+        }
+        return 0;
+    }
+    0
+}
+
+// Whether a text is whole characters.
+pub fn well_formed(s: &[u8]) -> bool
+    ensures { λ r. ⌜ r ≡ wellFormed (now (s .entry)) ⌝ }
+{
+    let mut i = 0;
+    while i < s.len() {
+        let n = char_len(s, i);
+        if n == 0 {
+            return false;
+        }
+        i += n;
+    }
+    true
+}
+
+// Whether a part of a text is whole characters.
+pub fn part_well_formed(s: &[u8], from: usize, len: usize) -> bool
+    requires { ⌜ from + len ≤ length (now s) ⌝ }
+    ensures { λ r. ⌜ r ≡ wellFormed (take len (drop from (now (s .entry)))) ⌝ }
+{
+    well_formed(&s[from..from + len])
+}
+
+// Whether a place of a text lies between two characters: no byte goes on there with the one before.
+pub fn is_boundary(s: &[u8], at: usize) -> bool
+    ensures { λ r. ⌜ r ≡ boundary (now (s .entry)) at ⌝ }
+{
+    if s.len() <= at {
+        return true;
+    }
+    let b = s[at];
+    match b {
+        0x80..=0xbf => false,
+        _ => true,
+    }
+}
+
+// Whether a part of a text that is well formed as a whole is whole characters: it is empty, or both its ends are boundaries.
+pub fn cut_well_formed(s: &[u8], from: usize, len: usize) -> bool
+    requires { ⌜ (from + len ≤ length (now s)) × (wellFormed (now s) ≡ true) ⌝ }
+    ensures { λ r. ⌜ r ≡ wellFormed (take len (drop from (now (s .entry)))) ⌝ }
+{
+    if len == 0 {
+        return true;
+    }
+    if is_boundary(s, from) {
+        return is_boundary(s, from + len);
+    }
+    false
+}
