@@ -82,7 +82,7 @@ pub record Measured (q : Quote) (s : Bytes) (i : ℕ) (g r : Scan) : Type 0 wher
 pub record Passing (s : Bytes) (i : ℕ) (l : Line) (out : Bytes) : Type 0 where
   pub inside : i < length s
   pub short : length s ≤ 65536
-  pub near : l .col ≤ 2 ^ 41
+  pub near : l .col ≤ 2 ^ 63 + 2 ^ 20
   pub room : length out < 2 ^ 62
 
 -- a turn of the folding: finishing from where it ends is finishing from where it began

@@ -72,7 +72,7 @@ fn ascii_piece(a: u8) -> Piece
 }
 
 // U+0080 to U+009F but U+0085.
-fn is_c1(a: u8, b: u8) -> bool
+pub fn is_c1(a: u8, b: u8) -> bool
     ensures { λ r. ⌜ r ≡ isC1 a b ⌝ }
 {
     if a != 0xc2 {
@@ -88,7 +88,7 @@ fn is_c1(a: u8, b: u8) -> bool
 }
 
 // U+FFFE and U+FFFF.
-fn is_non(a: u8, b: u8, c: u8) -> bool
+pub fn is_non(a: u8, b: u8, c: u8) -> bool
     ensures { λ r. ⌜ r ≡ isNon a b c ⌝ }
 {
     if a != 0xef {
@@ -299,7 +299,7 @@ pub fn has_breakable(s: &[u8]) -> bool
     false
 }
 
-// Measuring ahead: the columns so far, and as in `Line`.
+// Measuring ahead: the columns so far, the bytes to come that were spoken for, and whether a space, or nothing, was passed last.
 pub struct Scan {
     pub n: usize,
     pub skip: usize,
@@ -317,7 +317,7 @@ fn scan_stops(g: Scan, s: &[u8], i: usize) -> bool
 }
 
 fn scan_turn(g: Scan, s: &[u8], i: usize, single: bool) -> Scan
-    requires { ⌜ (i < length (now s)) × (length (now s) ≤ 65536) × (g .n ≤ 2 ^ 41) × (stops (g .skip) (g .after) (drop i (now s)) ≡ false) ⌝ }
+    requires { ⌜ (i < length (now s)) × (length (now s) ≤ 65536) × (g .n ≤ 2 ^ 20) × (stops (g .skip) (g .after) (drop i (now s)) ≡ false) ⌝ }
     ensures { λ r. ⌜ Measured (quoteBy single) (now (s .entry)) i g r ⌝ }
 {
     let skip = g.skip;
@@ -440,7 +440,7 @@ pub fn put_folded(
     start: usize,
     f: Fold,
 ) -> Writer
-    requires { ⌜ (length (now s) ≤ 65536) × (start ≤ 2 ^ 40) × (f .indent ≤ 2 ^ 40) × (length (now out) < 2 ^ 62) ⌝ }
+    requires { ⌜ (length (now s) ≤ 65536) × (start ≤ 2 ^ 63) × (f .indent ≤ 2 ^ 63) × (length (now out) < 2 ^ 62) ⌝ }
     ensures { λ r. ⌜ pen r (now (out .exit)) ≡ puts (foldedOf (quoteBy single) (folding f) 0 true start (now (s .entry))) (pen w (now (out .entry))) ⌝ }
 {
     let mut l = Line {
@@ -504,7 +504,7 @@ pub fn put_quoted_folded(
     s: &[u8],
     single: bool,
 ) -> Writer
-    requires { ⌜ (length (now s) ≤ 65536) × (w .column < 2 ^ 40) × (length (now out) < 2 ^ 62) ⌝ }
+    requires { ⌜ (length (now s) ≤ 65536) × (w .column < 2 ^ 63) × (length (now out) < 2 ^ 62) ⌝ }
     ensures { λ r. ⌜ pen r (now (out .exit)) ≡ puts (foldedAt settings single (now (s .entry)) (w .column)) (pen w (now (out .entry))) ⌝ }
 {
     let column = w.column;
@@ -527,7 +527,7 @@ pub fn put_styled(
     single: bool,
     s: &[u8],
 ) -> Writer
-    requires { ⌜ (length (now s) ≤ 65536) × (w .column < 2 ^ 40) × (length (now out) < 2 ^ 62) ⌝ }
+    requires { ⌜ (length (now s) ≤ 65536) × (w .column < 2 ^ 63) × (length (now out) < 2 ^ 62) ⌝ }
     ensures { λ r. ⌜ pen r (now (out .exit)) ≡ puts (styledAt settings key single (now (s .entry)) (w .column)) (pen w (now (out .entry))) ⌝ }
 {
     if will_fold(settings, key) {
