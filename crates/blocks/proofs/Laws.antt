@@ -1,0 +1,106 @@
+-- Block scalars, a turn at a time: the lines, the line breaks at the end, the header and the body from their parts.
+use Prim.Native.Nat.{ℕ, zero, suc, _+_, _-_, _≤_, _<_}
+use native.Mathlib.Omega.{arith}
+use native.Mathlib.Numerals.{add-one}
+use mathlib.Core.Path.{_≡_, refl, sym, ap, _∙_}
+use mathlib.Core.Bool.{Bool, true, false}
+use mathlib.Core.List.{[], _∷_, _++_, append-nil}
+use lib.ListN.{length, getD, drop, take, replicate}
+use lib.Seq.{drop-cons}
+use lib.Dec.{eqb}
+use borrow.Author.Tests.{eq-eqb, ne-eqb}
+use Rattle.pen.specs.Pen.{Pen, put1, puts, puts-append, and-then}
+use Rattle.definition.specs.Base.{Bytes, if_then_else_, spaces}
+use Rattle.definition.specs.Block.{trailing, trimmed, chomping, indented, beyond, blockHeader, blockBody}
+use Rattle.laws.specs.Trim.{counted, trimmed-take, nothing-left, something-left}
+
+-- what holds of a byte and the text after it holds at a place of a text
+along : (F : Bytes → ℕ → Bytes → Type 0) (s : Bytes) (i : ℕ) → i < length s → ((a : ℕ) (t : Bytes) → F (a ∷ t) a t) → F (drop i s) (getD s i 0) (drop (i + 1) s)
+along F s i h k = rw (add-one, drop-cons s i 0 h) (k (getD s i 0) (drop (suc i) s))
+
+module _ (n : ℕ) (s : Bytes) (i : ℕ) (h : i < length s) where
+  pub line-broken : (fresh : Bool) (P P₁ : Pen) → getD s i 0 ≡ 10 → P₁ ≡ put1 P 10 → puts (indented n true (drop (i + 1) s)) P₁ ≡ puts (indented n fresh (drop i s)) P
+  unfolding indented puts
+  line-broken fresh P P₁ e w =
+      rw w (along (λ x a t. a ≡ 10 → puts (indented n true t) (put1 P 10) ≡ puts (indented n fresh x) P) s i h (λ a t e. rw (eq-eqb a 10 e)) e)
+
+  pub line-begun : (fresh : Bool) (P P₁ P₂ : Pen) → fresh ≡ true → (getD s i 0 ≡ 10 → ⊥) → P₁ ≡ puts (spaces n) P → P₂ ≡ put1 P₁ (getD s i 0)
+      → puts (indented n false (drop (i + 1) s)) P₂ ≡ puts (indented n fresh (drop i s)) P
+  unfolding indented puts
+  line-begun fresh P P₁ P₂ g e w v =
+      rw (v, w, g)
+      (along (λ x a t. (a ≡ 10 → ⊥) → puts (indented n false t) (put1 (puts (spaces n) P) a) ≡ puts (indented n true x) P) s i h
+      (λ a t e. rw (ne-eqb a 10 e) (sym (puts-append (spaces n) (a ∷ indented n false t) P))) e)
+
+  pub line-on : (fresh : Bool) (P P₁ : Pen) → fresh ≡ false → (getD s i 0 ≡ 10 → ⊥) → P₁ ≡ put1 P (getD s i 0)
+      → puts (indented n false (drop (i + 1) s)) P₁ ≡ puts (indented n fresh (drop i s)) P
+  unfolding indented puts
+  line-on fresh P P₁ g e v =
+      rw (v, g)
+      (along (λ x a t. (a ≡ 10 → ⊥) → puts (indented n false t) (put1 P a) ≡ puts (indented n false x) P) s i h
+      (λ a t e. rw (ne-eqb a 10 e)) e)
+
+  pub counted-on : (m r z : ℕ) → r ≡ (if eqb (getD s i 0) 10 then m + 1 else 0) → counted m (drop i s) ≡ z → counted r (drop (i + 1) s) ≡ z
+  unfolding counted
+  counted-on m r z e g = rw e (along (λ x a t. counted m x ≡ z → counted (if eqb a 10 then m + 1 else 0) t ≡ z) s i h (λ a t g. g) g)
+
+pub counted-le : (b m r : ℕ) → r ≡ (if eqb b 10 then m + 1 else 0) → r ≤ m + 1
+counted-le b m r e = rw e (go (eqb b 10))
+  where
+    go : (t : Bool) → (if t then m + 1 else 0) ≤ m + 1
+    go true = omega arith
+    go false = omega arith
+
+pub breaks-turn : (k : ℕ) (P P' Z : Pen) → 0 < k → P' ≡ put1 P 10 → puts (replicate k 10) P ≡ Z → puts (replicate (k - 1) 10) P' ≡ Z
+unfolding puts
+breaks-turn zero P P' Z h e inv = absurd (omega arith)
+breaks-turn (suc k) P P' Z h e inv = let s : suc k - 1 ≡ k = omega arith in rw (s, e) inv
+
+many : (t : ℕ) → 1 < t → (x : Bytes) → chomping t x ≡ 43 ∷ []
+unfolding chomping
+many zero h x = absurd (omega arith)
+many (suc zero) h x = absurd (omega arith)
+many (suc (suc t)) h x = refl
+
+module _ (marker : ℕ) (s : Bytes) (t : ℕ) (e : t ≡ trailing s) where
+  pub header-strip : t ≡ 0 → blockHeader marker s ≡ marker ∷ 45 ∷ []
+  unfolding blockHeader chomping
+  header-strip h = rw (← e, h)
+
+  pub header-keep : 1 < t → blockHeader marker s ≡ marker ∷ 43 ∷ []
+  unfolding blockHeader
+  header-keep h = rw (← e, many t h (trimmed s))
+
+  pub header-breaks : (t ≡ 0 → ⊥) → t ≤ 1 → t ≡ length s → blockHeader marker s ≡ marker ∷ 43 ∷ []
+  unfolding blockHeader chomping
+  header-breaks n h l = let o : t ≡ 1 = omega arith in rw (← e, o, nothing-left s (sym e ∙ l))
+
+  pub header-clip : (t ≡ 0 → ⊥) → t ≤ 1 → (t ≡ length s → ⊥) → blockHeader marker s ≡ marker ∷ []
+  unfolding blockHeader chomping
+  header-clip n h l = let o : t ≡ 1 = omega arith in rw (← e, o, something-left s (λ (q : trailing s ≡ length s). l (e ∙ q)))
+
+beyond-many : (t : ℕ) → 1 < t → replicate (t - 1) 10 ≡ beyond t
+unfolding beyond
+beyond-many zero h = absurd (omega arith)
+beyond-many (suc k) h = let z : suc k - 1 ≡ k = omega arith in ap (λ (m : ℕ). replicate m 10) z
+
+beyond-few : (t : ℕ) → t ≤ 1 → beyond t ≡ []
+unfolding beyond
+beyond-few zero h = refl
+beyond-few (suc zero) h = refl
+beyond-few (suc (suc k)) h = absurd (omega arith)
+
+module _ (n : ℕ) (s : Bytes) (t : ℕ) (e : t ≡ trailing s) where
+  pub body-more : (k : ℕ) (P P₁ P₂ P₃ : Pen) → 1 < t → P₁ ≡ put1 P 10 → P₂ ≡ puts (indented n true (take k s)) P₁ → k ≡ length s - t → P₃ ≡ puts (replicate (t - 1) 10) P₂ → P₃ ≡ puts (blockBody n s) P
+  unfolding blockBody puts
+  body-more k P P₁ P₂ P₃ h a b g c =
+      let l : take k s ≡ trimmed s = rw (g, e) (trimmed-take s) in
+      let d : P₃ ≡ puts (beyond (trailing s)) P₂ = rw (← e, ← beyond-many t h) c in
+      and-then P (10 ∷ []) (indented n true (trimmed s) ++ beyond (trailing s)) a
+      (and-then P₁ (indented n true (trimmed s)) (beyond (trailing s)) (rw l at b) d)
+
+  pub body-few : (k : ℕ) (P P₁ P₂ : Pen) → t ≤ 1 → P₁ ≡ put1 P 10 → P₂ ≡ puts (indented n true (take k s)) P₁ → k ≡ length s - t → P₂ ≡ puts (blockBody n s) P
+  unfolding blockBody puts
+  body-few k P P₁ P₂ h a b g =
+      let l : take k s ≡ trimmed s = rw (g, e) (trimmed-take s) in
+      and-then P (10 ∷ []) (indented n true (trimmed s) ++ beyond (trailing s)) a (rw (← e, beyond-few t h, append-nil) (rw l at b))

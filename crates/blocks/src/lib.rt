@@ -1,0 +1,128 @@
+// Block scalars, written straight out.
+ghost use mathlib.Core.Path.{_≡_};
+ghost use mathlib.Core.Bool.{true, false};
+ghost use Prim.Native.Nat.{_+_, _^_, _≤_, _<_};
+ghost use lib.ListN.{length, drop, replicate};
+ghost use lib.Dec.{eqb};
+ghost use Rattle.pen.specs.Pen.{pen, puts};
+ghost use Rattle.definition.specs.Base.{if_then_else_};
+ghost use Rattle.definition.specs.Block.{trailing, indented, blockHeader, blockBody};
+use pen::Writer;
+
+// On the way through a text: whether a line begins here.
+pub struct Going {
+    pub w: Writer,
+    pub fresh: bool,
+}
+
+// One byte of the text.
+fn line_turn(g: Going, out: &mut [u8], s: &[u8], i: usize, indent: usize) -> Going
+    requires { ⌜ (i < length (now s)) × (length (now out) < 2 ^ 62) ⌝ }
+    ensures { λ r. ⌜ puts (indented indent (r .fresh) (drop (i + 1) (now (s .entry)))) (pen (r .w) (now (out .exit)))
+        ≡ puts (indented indent (g .fresh) (drop i (now (s .entry)))) (pen (g .w) (now (out .entry))) ⌝ }
+{
+    let w = g.w;
+    let b = s[i];
+    if b == b'\n' {
+        return Going {
+            w: w.byte(out, b'\n'),
+            fresh: true,
+        };
+    }
+    if g.fresh {
+        let w = w.spaces(out, indent);
+        return Going {
+            w: w.byte(out, b),
+            fresh: false,
+        };
+    }
+    Going {
+        w: w.byte(out, b),
+        fresh: false,
+    }
+}
+
+// A text's lines, each at the indent where it is not empty.
+fn put_lines(w: Writer, out: &mut [u8], s: &[u8], indent: usize) -> Writer
+    requires { ⌜ length (now out) < 2 ^ 62 ⌝ }
+    ensures { λ r. ⌜ pen r (now (out .exit)) ≡ puts (indented indent true (now (s .entry))) (pen w (now (out .entry))) ⌝ }
+{
+    let mut g = Going { w: w, fresh: true };
+    let mut i = 0;
+    while i < s.len() {
+        g = line_turn(g, out, s, i, indent);
+        i += 1;
+    }
+    let w = g.w;
+    w.byte(out, b'\n')
+}
+
+fn put_breaks(w: Writer, out: &mut [u8], n: usize) -> Writer
+    requires { ⌜ length (now out) < 2 ^ 62 ⌝ }
+    ensures { λ r. ⌜ pen r (now (out .exit)) ≡ puts (replicate n 10) (pen w (now (out .entry))) ⌝ }
+{
+    let mut w = w;
+    let mut left = n;
+    while left > 0 {
+        w = w.byte(out, b'\n');
+        left -= 1;
+    }
+    w
+}
+
+fn count_turn(n: usize, b: u8) -> usize
+    requires { ⌜ n < 18446744073709551615 ⌝ }
+    ensures { λ r. ⌜ r ≡ (if eqb b 10 then n + 1 else 0) ⌝ }
+{
+    if b == b'\n' {
+        return n + 1;
+    }
+    0
+}
+
+// How many line breaks a text ends in.
+fn trailing_breaks(s: &[u8]) -> usize
+    ensures { λ r. ⌜ (r ≡ trailing (now (s .entry))) × (r ≤ length (now (s .entry))) ⌝ }
+{
+    let mut n = 0;
+    let mut i = 0;
+    while i < s.len() {
+        n = count_turn(n, s[i]);
+        i += 1;
+    }
+    n
+}
+
+// The marker and the chomping mark.
+pub fn put_header(w: Writer, out: &mut [u8], s: &[u8], marker: u8) -> Writer
+    requires { ⌜ length (now out) < 2 ^ 62 ⌝ }
+    ensures { λ r. ⌜ pen r (now (out .exit)) ≡ puts (blockHeader marker (now (s .entry))) (pen w (now (out .entry))) ⌝ }
+{
+    let t = trailing_breaks(s);
+    let w = w.byte(out, marker);
+    if t == 0 {
+        return w.byte(out, b'-');
+    }
+    if t > 1 {
+        return w.byte(out, b'+');
+    }
+    if t == s.len() {
+        return w.byte(out, b'+');
+    }
+    w
+}
+
+// After the header: its line break, the lines, and the breaks beyond the first.
+pub fn put_block_body(w: Writer, out: &mut [u8], s: &[u8], indent: usize) -> Writer
+    requires { ⌜ length (now out) < 2 ^ 62 ⌝ }
+    ensures { λ r. ⌜ pen r (now (out .exit)) ≡ puts (blockBody indent (now (s .entry))) (pen w (now (out .entry))) ⌝ }
+{
+    let t = trailing_breaks(s);
+    let end = s.len() - t;
+    let w = w.byte(out, b'\n');
+    let w = put_lines(w, out, &s[0..end], indent);
+    if t > 1 {
+        return put_breaks(w, out, t - 1);
+    }
+    w
+}

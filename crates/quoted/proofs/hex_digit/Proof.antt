@@ -1,0 +1,15 @@
+use Rattle.quoted.proofs.Laws.{digits}
+use borrow.Author.Needs.{needs}
+use Rattle.quoted.proofs.hex_digit.Statement.{statement}
+use Rattle.quoted.proofs.hex_digit.Tie as tie
+use Rattle.quoted.proofs.hex_digit.Reads as reads
+use Rattle.quoted.proofs.hex_digit.Lts as lts
+
+element-copy-out-result : tie.Need-element-copy-out-result
+element-copy-out-result c = search needs
+
+returns : tie.Need-returns
+returns c = digits _ (c .before .before .pre)
+
+pub hex-digit-spec : {M : Type 1} → statement M
+hex-digit-spec = tie.close (tie.spec element-copy-out-result returns)

@@ -1,0 +1,16 @@
+use Rattle.definition.specs.Scalar.{quoteOf}
+use Rattle.quoted.proofs.quote_of.Statement.{statement}
+use Rattle.quoted.proofs.quote_of.Tie as tie
+use Rattle.quoted.proofs.quote_of.Reads as reads
+use Rattle.quoted.proofs.quote_of.Lts as lts
+
+returns : tie.Need-returns
+unfolding quoteOf
+returns c = rw (c .if1 .taken)
+
+returns-2 : tie.Need-returns-2
+unfolding quoteOf
+returns-2 c = rw (c .if1 .left)
+
+pub quote-of-spec : {M : Type 1} → statement M
+quote-of-spec = tie.close (tie.spec returns returns-2)

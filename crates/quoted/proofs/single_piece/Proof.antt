@@ -1,0 +1,14 @@
+use Rattle.quoted.proofs.Laws.{single-pair, single-plain}
+use Rattle.quoted.proofs.single_piece.Statement.{statement}
+use Rattle.quoted.proofs.single_piece.Tie as tie
+use Rattle.quoted.proofs.single_piece.Reads as reads
+use Rattle.quoted.proofs.single_piece.Lts as lts
+
+returns : tie.Need-returns
+returns c = single-pair _ (c .if1 .taken)
+
+returns-2 : tie.Need-returns-2
+returns-2 c = single-plain _ (c .if1 .left)
+
+pub single-piece-spec : {M : Type 1} → statement M
+single-piece-spec = tie.close (tie.spec returns returns-2)

@@ -1,0 +1,16 @@
+use Rattle.definition.specs.Settings.{folds}
+use Rattle.quoted.proofs.will_fold.Statement.{statement}
+use Rattle.quoted.proofs.will_fold.Tie as tie
+use Rattle.quoted.proofs.will_fold.Reads as reads
+use Rattle.quoted.proofs.will_fold.Lts as lts
+
+returns : tie.Need-returns
+unfolding folds
+returns c = rw (c .if1 .taken)
+
+returns-2 : tie.Need-returns-2
+unfolding folds
+returns-2 c = rw (c .before .if1 .left)
+
+pub will-fold-spec : {M : Type 1} → statement M
+will-fold-spec = tie.close (tie.spec returns returns-2)

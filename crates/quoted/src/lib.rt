@@ -1,0 +1,537 @@
+// Quoted bodies, folded or not, written straight out: no body is made, the next piece is measured ahead.
+ghost use mathlib.Core.Path.{_≡_};
+ghost use mathlib.Core.Bool.{true, false};
+ghost use Prim.Native.Nat.{_+_, _*_, _^_, _≤_, _<_, max};
+ghost use mathlib.Core.List.{[], _∷_};
+ghost use lib.ListN.{length, getD, drop};
+ghost use Rattle.pen.specs.Pen.{pen, puts};
+ghost use Rattle.definition.specs.Quote.{digit, hex2, hex4, escaped};
+ghost use Rattle.definition.specs.Fold.{size, breakable, hasBreakable};
+ghost use Rattle.laws.specs.Pieces.{isC1, isNon, doublePiece, doubleMore, singlePiece, quoteBy, body};
+ghost use Rattle.laws.specs.Folded.{aheadOf, foldedOf};
+ghost use Rattle.quoted.specs.Piece.{spell, beside, letterOf, sound, Written, Stands, stops, Measured, Passing, Onward, folding};
+ghost use Rattle.definition.specs.Settings.{folds};
+ghost use Rattle.definition.specs.Scalar.{quoteOf};
+ghost use Rattle.laws.specs.Leaf.{quotedAt, foldedAt, styledAt};
+use definition::Settings;
+use pen::Writer;
+
+// A byte as it is; two bytes; `\x` of a character below 80; `\x` of C2 and a byte; `\u` of EF BF and a byte.
+pub enum Piece {
+    Plain(u8),
+    Pair(u8, u8),
+    Hex(u8),
+    Latin(u8),
+    Wide(u8),
+}
+
+pub struct Fold {
+    pub indent: usize,
+    pub width: usize,
+}
+
+fn hex_digit(d: u8) -> u8
+    requires { ⌜ d < 16 ⌝ }
+    ensures { λ r. ⌜ r ≡ digit d ⌝ }
+{
+    let table = b"0123456789abcdef";
+    let i = d as usize;
+    table[i]
+}
+
+// The letter of a short escape, 0 where there is none.
+fn letter(a: u8) -> u8
+    ensures { λ r. ⌜ r ≡ letterOf a ⌝ }
+{
+    match a {
+        0x00 => b'0',
+        0x09 => b't',
+        0x0a => b'n',
+        0x0d => b'r',
+        0x22 => b'"',
+        0x5c => b'\\',
+        _ => 0,
+    }
+}
+
+fn ascii_piece(a: u8) -> Piece
+    requires { ⌜ a < 0x80 ⌝ }
+    ensures { λ r. ⌜ Written (escaped a (a ∷ [])) 0 r ⌝ }
+{
+    let l = letter(a);
+    if l != 0 {
+        return Piece::Pair(b'\\', l);
+    }
+    if a < 0x20 {
+        return Piece::Hex(a);
+    }
+    if a == 0x7f {
+        return Piece::Hex(a);
+    }
+    Piece::Plain(a)
+}
+
+// U+0080 to U+009F but U+0085.
+pub fn is_c1(a: u8, b: u8) -> bool
+    ensures { λ r. ⌜ r ≡ isC1 a b ⌝ }
+{
+    if a != 0xc2 {
+        return false;
+    }
+    if b < 0x80 {
+        return false;
+    }
+    if b == 0x85 {
+        return false;
+    }
+    b <= 0x9f
+}
+
+// U+FFFE and U+FFFF.
+pub fn is_non(a: u8, b: u8, c: u8) -> bool
+    ensures { λ r. ⌜ r ≡ isNon a b c ⌝ }
+{
+    if a != 0xef {
+        return false;
+    }
+    if b != 0xbf {
+        return false;
+    }
+    if c < 0xbe {
+        return false;
+    }
+    c <= 0xbf
+}
+
+fn double_piece(a: u8, b: u8, c: u8) -> Piece
+    ensures { λ r. ⌜ Written (doublePiece a b c) (doubleMore a b c) r ⌝ }
+{
+    if a < 0x80 {
+        return ascii_piece(a);
+    }
+    if is_c1(a, b) {
+        return Piece::Latin(b);
+    }
+    if is_non(a, b, c) {
+        return Piece::Wide(c);
+    }
+    Piece::Plain(a)
+}
+
+fn single_piece(a: u8) -> Piece
+    ensures { λ r. ⌜ Written (singlePiece a 0 0) 0 r ⌝ }
+{
+    if a == b'\'' {
+        return Piece::Pair(a, a);
+    }
+    Piece::Plain(a)
+}
+
+// The byte at a place, 0 past the end.
+fn at(s: &[u8], i: usize) -> u8
+    ensures { λ r. ⌜ r ≡ getD (now (s .entry)) i 0 ⌝ }
+{
+    if i < s.len() {
+        return s[i];
+    }
+    0
+}
+
+// The piece of the body that is written for the byte at a place.
+fn piece_at(s: &[u8], i: usize, single: bool) -> Piece
+    requires { ⌜ (i < length (now s)) × (length (now s) ≤ 65536) ⌝ }
+    ensures { λ r. ⌜ Stands (quoteBy single) (drop i (now (s .entry))) r ⌝ }
+{
+    let a = at(s, i);
+    if single {
+        return single_piece(a);
+    }
+    let b = at(s, i + 1);
+    let c = at(s, i + 2);
+    double_piece(a, b, c)
+}
+
+// How many columns a piece takes.
+fn columns(p: Piece) -> usize
+    ensures { λ r. ⌜ (r ≡ size (λ b. 1) (spell p)) × (r ≤ 6) ⌝ }
+{
+    match p {
+        Piece::Plain(_) => 1,
+        Piece::Pair(_, _) => 2,
+        Piece::Hex(_) => 4,
+        Piece::Latin(_) => 4,
+        Piece::Wide(_) => 6,
+    }
+}
+
+// How many bytes of the value a piece speaks for beside the first.
+fn others(p: Piece) -> usize
+    ensures { λ r. ⌜ r ≡ beside p ⌝ }
+{
+    match p {
+        Piece::Plain(_) => 0,
+        Piece::Pair(_, _) => 0,
+        Piece::Hex(_) => 0,
+        Piece::Latin(_) => 1,
+        Piece::Wide(_) => 2,
+    }
+}
+
+fn put_pair(w: Writer, out: &mut [u8], a: u8, b: u8) -> Writer
+    requires { ⌜ length (now out) < 2 ^ 62 ⌝ }
+    ensures { λ r. ⌜ pen r (now (out .exit)) ≡ puts (a ∷ b ∷ []) (pen w (now (out .entry))) ⌝ }
+{
+    let w = w.byte(out, a);
+    w.byte(out, b)
+}
+
+fn put_hex2(w: Writer, out: &mut [u8], n: u8) -> Writer
+    requires { ⌜ length (now out) < 2 ^ 62 ⌝ }
+    ensures { λ r. ⌜ pen r (now (out .exit)) ≡ puts (hex2 n) (pen w (now (out .entry))) ⌝ }
+{
+    put_pair(w, out, hex_digit(n / 16), hex_digit(n % 16))
+}
+
+fn put_x(w: Writer, out: &mut [u8], n: u8) -> Writer
+    requires { ⌜ length (now out) < 2 ^ 62 ⌝ }
+    ensures { λ r. ⌜ pen r (now (out .exit)) ≡ puts (92 ∷ 120 ∷ hex2 n) (pen w (now (out .entry))) ⌝ }
+{
+    let w = put_pair(w, out, b'\\', b'x');
+    put_hex2(w, out, n)
+}
+
+// `\u` and four digits, of FF40 and the byte.
+fn put_u(w: Writer, out: &mut [u8], c: u8) -> Writer
+    requires { ⌜ (0xbe ≤ c) × (c ≤ 0xbf) × (length (now out) < 2 ^ 62) ⌝ }
+    ensures { λ r. ⌜ pen r (now (out .exit)) ≡ puts (92 ∷ 117 ∷ hex4 (0xff40 + c)) (pen w (now (out .entry))) ⌝ }
+{
+    let w = put_pair(w, out, b'\\', b'u');
+    let w = put_hex2(w, out, 0xff);
+    put_hex2(w, out, c + 0x40)
+}
+
+fn put_piece(w: Writer, out: &mut [u8], p: Piece) -> Writer
+    requires { ⌜ sound p × (length (now out) < 2 ^ 62) ⌝ }
+    ensures { λ r. ⌜ pen r (now (out .exit)) ≡ puts (spell p) (pen w (now (out .entry))) ⌝ }
+{
+    match p {
+        Piece::Plain(a) => w.byte(out, a),
+        Piece::Pair(a, b) => put_pair(w, out, a, b),
+        Piece::Hex(a) => put_x(w, out, a),
+        Piece::Latin(b) => put_x(w, out, b),
+        Piece::Wide(c) => put_u(w, out, c),
+    }
+}
+
+// On the way through a text: `skip` bytes to come were spoken for by the piece written last.
+pub struct Going {
+    pub w: Writer,
+    pub skip: usize,
+}
+
+// One byte of the text.
+fn body_turn(g: Going, out: &mut [u8], s: &[u8], i: usize, single: bool) -> Going
+    requires { ⌜ (i < length (now s)) × (length (now s) ≤ 65536) × (length (now out) < 2 ^ 62) ⌝ }
+    ensures { λ r. ⌜ puts (body (quoteBy single) (r .skip) (drop (i + 1) (now (s .entry)))) (pen (r .w) (now (out .exit)))
+        ≡ puts (body (quoteBy single) (g .skip) (drop i (now (s .entry)))) (pen (g .w) (now (out .entry))) ⌝ }
+{
+    let skip = g.skip;
+    let w = g.w;
+    if skip > 0 {
+        return Going {
+            w: w,
+            skip: skip - 1,
+        };
+    }
+    let p = piece_at(s, i, single);
+    let w = put_piece(w, out, p);
+    Going {
+        w: w,
+        skip: others(p),
+    }
+}
+
+// The body of a text, not folded.
+pub fn put_body(w: Writer, out: &mut [u8], s: &[u8], single: bool) -> Writer
+    requires { ⌜ (length (now s) ≤ 65536) × (length (now out) < 2 ^ 62) ⌝ }
+    ensures { λ r. ⌜ pen r (now (out .exit)) ≡ puts (body (quoteBy single) 0 (now (s .entry))) (pen w (now (out .entry))) ⌝ }
+{
+    let mut g = Going { w: w, skip: 0 };
+    let mut i = 0;
+    while i < s.len() {
+        g = body_turn(g, out, s, i, single);
+        i += 1;
+    }
+    g.w
+}
+
+// Whether a breakable space stands at a place. `after`: a space, or nothing, stands before it.
+fn breakable_at(s: &[u8], i: usize, after: bool) -> bool
+    requires { ⌜ i < length (now s) ⌝ }
+    ensures { λ r. ⌜ r ≡ breakable after (getD (now (s .entry)) i 0) (drop (i + 1) (now (s .entry))) ⌝ }
+{
+    if after {
+        return false;
+    }
+    if s[i] != b' ' {
+        return false;
+    }
+    let j = i + 1;
+    if j < s.len() {
+        return s[j] != b' ';
+    }
+    false
+}
+
+// Whether a text has a breakable space.
+pub fn has_breakable(s: &[u8]) -> bool
+    ensures { λ r. ⌜ r ≡ hasBreakable (now (s .entry)) ⌝ }
+{
+    let mut after = true;
+    let mut i = 0;
+    while i < s.len() {
+        if breakable_at(s, i, after) {
+            return true;
+        }
+        after = s[i] == b' ';
+        i += 1;
+    }
+    false
+}
+
+// Measuring ahead: the columns so far, the bytes to come that were spoken for, and whether a space, or nothing, was passed last.
+pub struct Scan {
+    pub n: usize,
+    pub skip: usize,
+    pub after: bool,
+}
+
+fn scan_stops(g: Scan, s: &[u8], i: usize) -> bool
+    requires { ⌜ i < length (now s) ⌝ }
+    ensures { λ r. ⌜ r ≡ stops (g .skip) (g .after) (drop i (now (s .entry))) ⌝ }
+{
+    if g.skip > 0 {
+        return false;
+    }
+    breakable_at(s, i, g.after)
+}
+
+fn scan_turn(g: Scan, s: &[u8], i: usize, single: bool) -> Scan
+    requires { ⌜ (i < length (now s)) × (length (now s) ≤ 65536) × (g .n ≤ 2 ^ 20) × (stops (g .skip) (g .after) (drop i (now s)) ≡ false) ⌝ }
+    ensures { λ r. ⌜ Measured (quoteBy single) (now (s .entry)) i g r ⌝ }
+{
+    let skip = g.skip;
+    if skip > 0 {
+        return Scan {
+            n: g.n,
+            skip: skip - 1,
+            after: g.after,
+        };
+    }
+    let p = piece_at(s, i, single);
+    Scan {
+        n: g.n + columns(p),
+        skip: others(p),
+        after: s[i] == b' ',
+    }
+}
+
+// The columns of the body from a place up to the next breakable space.
+fn ahead(s: &[u8], from: usize, single: bool) -> usize
+    requires { ⌜ (from ≤ length (now s)) × (length (now s) ≤ 65536) ⌝ }
+    ensures { λ r. ⌜ (r ≡ aheadOf (quoteBy single) (λ b. 1) 0 true (drop from (now (s .entry)))) × (r ≤ 6 * length (now (s .entry))) ⌝ }
+{
+    let mut g = Scan {
+        n: 0,
+        skip: 0,
+        after: true,
+    };
+    let mut i = from;
+    while i < s.len() {
+        if scan_stops(g, s, i) {
+            return g.n;
+        }
+        g = scan_turn(g, s, i, single);
+        i += 1;
+    }
+    g.n
+}
+
+// On the way through a text that is folded: the column, the bytes to come that were spoken for, and whether a space, or
+// nothing, was passed last.
+pub struct Line {
+    pub w: Writer,
+    pub col: usize,
+    pub skip: usize,
+    pub after: bool,
+}
+
+// A breakable space: kept where the next piece still fits the line.
+fn fold_gap(l: Line, out: &mut [u8], s: &[u8], i: usize, single: bool, f: Fold) -> Line
+    requires { ⌜ Passing (now s) i l (now out) ⌝ }
+    requires { ⌜ (l .skip ≡ 0) × (breakable (l .after) (getD (now s) i 0) (drop (i + 1) (now s)) ≡ true) ⌝ }
+    ensures { λ r. ⌜ Onward (quoteBy single) f (now (s .entry)) i l (now (out .entry)) r (now (out .exit)) ⌝ }
+{
+    let need = l.col + 1 + ahead(s, i + 1, single);
+    let w = l.w;
+    if need > f.width {
+        let w = w.byte(out, b'\n');
+        let w = w.spaces(out, f.indent);
+        return Line {
+            w: w,
+            col: f.indent,
+            skip: 0,
+            after: true,
+        };
+    }
+    let w = w.byte(out, b' ');
+    Line {
+        w: w,
+        col: l.col + 1,
+        skip: 0,
+        after: true,
+    }
+}
+
+// Anything else: its piece.
+fn fold_piece(l: Line, out: &mut [u8], s: &[u8], i: usize, single: bool, f: Fold) -> Line
+    requires { ⌜ Passing (now s) i l (now out) ⌝ }
+    requires { ⌜ (l .skip ≡ 0) × (breakable (l .after) (getD (now s) i 0) (drop (i + 1) (now s)) ≡ false) ⌝ }
+    ensures { λ r. ⌜ Onward (quoteBy single) f (now (s .entry)) i l (now (out .entry)) r (now (out .exit)) ⌝ }
+{
+    let p = piece_at(s, i, single);
+    let w = l.w;
+    let w = put_piece(w, out, p);
+    Line {
+        w: w,
+        col: l.col + columns(p),
+        skip: others(p),
+        after: s[i] == b' ',
+    }
+}
+
+// One byte of the text.
+fn fold_turn(l: Line, out: &mut [u8], s: &[u8], i: usize, single: bool, f: Fold) -> Line
+    requires { ⌜ Passing (now s) i l (now out) ⌝ }
+    ensures { λ r. ⌜ Onward (quoteBy single) f (now (s .entry)) i l (now (out .entry)) r (now (out .exit)) ⌝ }
+{
+    let skip = l.skip;
+    let w = l.w;
+    if skip > 0 {
+        return Line {
+            w: w,
+            col: l.col,
+            skip: skip - 1,
+            after: l.after,
+        };
+    }
+    if breakable_at(s, i, l.after) {
+        return fold_gap(l, out, s, i, single, f);
+    }
+    fold_piece(l, out, s, i, single, f)
+}
+
+// The body of a text, folded: it begins at the column `start`.
+pub fn put_folded(
+    w: Writer,
+    out: &mut [u8],
+    s: &[u8],
+    single: bool,
+    start: usize,
+    f: Fold,
+) -> Writer
+    requires { ⌜ (length (now s) ≤ 65536) × (start ≤ 2 ^ 63) × (f .indent ≤ 2 ^ 63) × (length (now out) < 2 ^ 62) ⌝ }
+    ensures { λ r. ⌜ pen r (now (out .exit)) ≡ puts (foldedOf (quoteBy single) (folding f) 0 true start (now (s .entry))) (pen w (now (out .entry))) ⌝ }
+{
+    let mut l = Line {
+        w: w,
+        col: start,
+        skip: 0,
+        after: true,
+    };
+    let mut i = 0;
+    while i < s.len() {
+        l = fold_turn(l, out, s, i, single, f);
+        i += 1;
+    }
+    l.w
+}
+
+fn quote_of(single: bool) -> u8
+    ensures { λ r. ⌜ r ≡ quoteOf single ⌝ }
+{
+    if single {
+        return b'\'';
+    }
+    b'"'
+}
+
+pub fn at_least_one(n: usize) -> usize
+    ensures { λ r. ⌜ r ≡ max n 1 ⌝ }
+{
+    if n == 0 {
+        return 1;
+    }
+    n
+}
+
+// Whether lines are folded: outside keys, where a width is set.
+pub fn will_fold(settings: Settings, key: bool) -> bool
+    ensures { λ r. ⌜ r ≡ folds settings key ⌝ }
+{
+    if key {
+        return false;
+    }
+    settings.width > 0
+}
+
+// A text in quotes, not folded.
+pub fn put_quoted(w: Writer, out: &mut [u8], s: &[u8], single: bool) -> Writer
+    requires { ⌜ (length (now s) ≤ 65536) × (length (now out) < 2 ^ 62) ⌝ }
+    ensures { λ r. ⌜ pen r (now (out .exit)) ≡ puts (quotedAt single (now (s .entry))) (pen w (now (out .entry))) ⌝ }
+{
+    let q = quote_of(single);
+    let w = w.byte(out, q);
+    let w = put_body(w, out, s, single);
+    w.byte(out, q)
+}
+
+// A text in quotes, folded: continued lines stand at the quote's column, but never at 0.
+pub fn put_quoted_folded(
+    w: Writer,
+    out: &mut [u8],
+    settings: Settings,
+    s: &[u8],
+    single: bool,
+) -> Writer
+    requires { ⌜ (length (now s) ≤ 65536) × (w .column < 2 ^ 63) × (length (now out) < 2 ^ 62) ⌝ }
+    ensures { λ r. ⌜ pen r (now (out .exit)) ≡ puts (foldedAt settings single (now (s .entry)) (w .column)) (pen w (now (out .entry))) ⌝ }
+{
+    let column = w.column;
+    let f = Fold {
+        indent: at_least_one(column),
+        width: settings.width,
+    };
+    let q = quote_of(single);
+    let w = w.byte(out, q);
+    let w = put_folded(w, out, s, single, column + 1, f);
+    w.byte(out, q)
+}
+
+// A text in quotes, folded where lines are.
+pub fn put_styled(
+    w: Writer,
+    out: &mut [u8],
+    settings: Settings,
+    key: bool,
+    single: bool,
+    s: &[u8],
+) -> Writer
+    requires { ⌜ (length (now s) ≤ 65536) × (w .column < 2 ^ 63) × (length (now out) < 2 ^ 62) ⌝ }
+    ensures { λ r. ⌜ pen r (now (out .exit)) ≡ puts (styledAt settings key single (now (s .entry)) (w .column)) (pen w (now (out .entry))) ⌝ }
+{
+    if will_fold(settings, key) {
+        return put_quoted_folded(w, out, settings, s, single);
+    }
+    put_quoted(w, out, s, single)
+}
