@@ -184,7 +184,7 @@ impl Writer {
     }
 }
 
-fn at_least_one(n: usize) -> usize
+pub fn at_least_one(n: usize) -> usize
     ensures { λ r. ⌜ r ≡ max n 1 ⌝ }
 {
     if n == 0 {

@@ -1,7 +1,7 @@
 // Quoted bodies, folded or not, written straight out: no body is made, the next piece is measured ahead.
 ghost use mathlib.Core.Path.{_≡_};
 ghost use mathlib.Core.Bool.{true, false};
-ghost use Prim.Native.Nat.{_+_, _*_, _^_, _≤_, _<_, max};
+ghost use Prim.Native.Nat.{_+_, _*_, _^_, _≤_, _<_};
 ghost use mathlib.Core.List.{[], _∷_};
 ghost use lib.ListN.{length, getD, drop};
 ghost use Rattle.pen.specs.Pen.{pen, puts};
@@ -466,15 +466,6 @@ fn quote_of(single: bool) -> u8
     b'"'
 }
 
-pub fn at_least_one(n: usize) -> usize
-    ensures { λ r. ⌜ r ≡ max n 1 ⌝ }
-{
-    if n == 0 {
-        return 1;
-    }
-    n
-}
-
 // Whether lines are folded: outside keys, where a width is set.
 pub fn will_fold(settings: Settings, key: bool) -> bool
     ensures { λ r. ⌜ r ≡ folds settings key ⌝ }
@@ -509,7 +500,7 @@ pub fn put_quoted_folded(
 {
     let column = w.column;
     let f = Fold {
-        indent: at_least_one(column),
+        indent: pen::at_least_one(column),
         width: settings.width,
     };
     let q = quote_of(single);

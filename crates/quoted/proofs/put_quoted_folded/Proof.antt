@@ -7,7 +7,7 @@ use Rattle.quoted.proofs.put_quoted_folded.Tie as tie
 use Rattle.quoted.proofs.put_quoted_folded.Reads as reads
 use Rattle.quoted.proofs.put_quoted_folded.Lts as lts
 use Rattle.pen.proofs.Writer.byte.Reads as byte-reads
-use Rattle.quoted.proofs.at_least_one.Reads as at-least-one-reads
+use Rattle.pen.proofs.at_least_one.Reads as at-least-one-reads
 use Rattle.quoted.proofs.put_folded.Reads as put-folded-reads
 use Rattle.quoted.proofs.quote_of.Reads as quote-of-reads
 
