@@ -8,7 +8,7 @@ use native.Mathlib.Numerals.{add-one, sub-one}
 use lib.ListN.{length, drop, getD, drop-of-length-le}
 use lib.Seq.{drop-cons}
 use lib.Dec.{ltb}
-use borrow.Author.Tests.{le-leb, lt-leb}
+use borrow.Author.Tests.{le-leb, lt-leb, lt-ltb}
 use Rattle.definition.specs.Base.{Bytes, if_then_else_, within}
 use Rattle.definition.specs.Utf8.{isFirst, due, low, high, scan, wellFormed}
 use Rattle.utf8.specs.Chars.{more, charLen}
@@ -144,3 +144,26 @@ due-small a = go (ltb a 0xc0) (ltb a 0xe0) (ltb a 0xf0)
     go false true r = omega arith
     go false false true = omega arith
     go false false false = omega arith
+
+-- a byte below 80 is a character by itself
+pub ascii : (s : Bytes) (i : ℕ) → i < length s → getD s i 0 < 0x80 → 1 ≡ charLen (drop i s)
+unfolding charLen isFirst due more
+ascii s i h l =
+    let l2 : getD s i 0 < 0xc0 = omega arith in
+    rw (drop-cons s i 0 h, lt-ltb (getD s i 0) 0x80 l, lt-ltb (getD s i 0) 0xc0 l2)
+
+-- the character at a place, by what is found there
+module _ (s : Bytes) (i : ℕ) (inside : i < length s) (f : Bool) (first : f ≡ isFirst (getD s i 0)) where
+  char-is : charLen (drop i s) ≡ (if f && more (due (getD s i 0)) (low (getD s i 0)) (high (getD s i 0)) (drop (i + 1) s) then suc (due (getD s i 0)) else 0)
+  unfolding charLen
+  char-is = rw (drop-cons s i 0 inside, first, add-one)
+
+  pub char-not : f ≡ false → 0 ≡ charLen (drop i s)
+  char-not e = rw (char-is, e)
+
+  module _ (k l h : ℕ) (m : Bool) (p : k ≡ due (getD s i 0)) (q : l ≡ low (getD s i 0)) (r : h ≡ high (getD s i 0)) (d : m ≡ more k l h (drop (i + 1) s)) where
+    pub char-whole : f ≡ true → m ≡ true → k + 1 ≡ charLen (drop i s)
+    char-whole e g = rw (char-is, e, ← p, ← q, ← r, ← d, g, add-one)
+
+    pub char-cut : f ≡ true → m ≡ false → 0 ≡ charLen (drop i s)
+    char-cut e g = rw (char-is, e, ← p, ← q, ← r, ← d, g)

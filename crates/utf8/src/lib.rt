@@ -95,6 +95,9 @@ pub fn char_len(s: &[u8], at: usize) -> usize
         return 0;
     }
     let b = s[at];
+    if b < 0x80 {
+        return 1;
+    }
     if is_first(b) {
         let k = due_after(b);
         if continues(s, at + 1, k, lowest(b), highest(b)) {

@@ -1,12 +1,8 @@
 -- `utf8::char_len` meets its contract.
-use Prim.Native.Nat.{ℕ}
-use mathlib.Core.Path.{sym, _∙_}
 use native.Mathlib.Omega.{arith}
-use native.Mathlib.Numerals.{add-one}
 use lib.ListN.{getD, drop-of-length-le}
-use lib.Seq.{drop-cons}
 use Rattle.utf8.specs.Chars.{charLen}
-use Rattle.utf8.proofs.Chars.{due-small}
+use Rattle.utf8.proofs.Chars.{ascii, due-small, char-whole, char-cut, char-not}
 use borrow.Author.Needs.{needs}
 use Rattle.utf8.proofs.char_len.Statement.{statement}
 use Rattle.utf8.proofs.char_len.Tie as tie
@@ -17,6 +13,9 @@ returns c = rw (drop-of-length-le _ (c .if1 .taken))
 
 shared-slice-read-b : tie.Need-shared-slice-read-b
 shared-slice-read-b c = search needs
+
+returns-2 : tie.Need-returns-2
+returns-2 c = ascii (c .before .before .before .before .args .s .now) (c .before .before .before .before .args .at) (c .before .before .if1 .left) (c .if2 .taken)
 
 is-first-requires : tie.Need-is-first-requires
 is-first-requires c κs = search needs
@@ -37,50 +36,16 @@ continues-requires : tie.Need-continues-requires
 continues-requires c κs = search needs
 
 add-result : tie.Need-add-result
-add-result c =
-    let k = c .before .before .before .before in
-    omega (arith, rw (← k .due-after .ensures) at (due-small (getD (k .before .before .before .before .before .before .args .s .now) (k .before .before .before .before .before .before .args .at) 0)))
-
-returns-2 : tie.Need-returns-2
-unfolding charLen
-returns-2 c =
-    let k = c .before .before .before .before in
-    let b = k .before .before .before .before in
-    let m =
-    rw (k .due-after .ensures, c .before .before .before .lowest .ensures, c .before .before .highest .ensures, add-one) at
-    (sym (c .before .continues .ensures) ∙ c .if3 .taken) in
-    rw (
-      add-one,
-      drop-cons {A = ℕ} _ _ 0 (b .if1 .left),
-      ← k .before .before .is-first .ensures,
-      k .before .if2 .taken,
-      m,
-      k .due-after .ensures,
-    )
+add-result c = let e = c .before .before .before .before .due-after .ensures in omega (arith, due-small (getD (c .before .before .before .before .before .before .before .before .before .before .before .args .s .now) (c .before .before .before .before .before .before .before .before .before .before .before .args .at) 0), e)
 
 returns-3 : tie.Need-returns-3
-unfolding charLen
-returns-3 c =
-    let k = c .before .before .before .before in
-    let b = k .before .before .before .before in
-    let m =
-    rw (k .due-after .ensures, c .before .before .before .lowest .ensures, c .before .before .highest .ensures, add-one) at
-    (sym (c .before .continues .ensures) ∙ c .if3 .left) in
-    rw (
-      drop-cons {A = ℕ} _ _ 0 (b .if1 .left),
-      ← k .before .before .is-first .ensures,
-      k .before .if2 .taken,
-      m,
-    )
+returns-3 c = char-whole (c .before .before .before .before .before .before .before .before .before .before .before .args .s .now) (c .before .before .before .before .before .before .before .before .before .before .before .args .at) (c .before .before .before .before .before .before .before .before .before .if1 .left) _ (c .before .before .before .before .before .before .is-first .ensures) _ _ _ _ (c .before .before .before .before .due-after .ensures) (c .before .before .before .lowest .ensures) (c .before .before .highest .ensures) (c .before .continues .ensures) (c .before .before .before .before .before .if3 .taken) (c .if4 .taken)
 
 returns-4 : tie.Need-returns-4
-unfolding charLen
-returns-4 c =
-    rw (
-      drop-cons {A = ℕ} _ _ 0 (c .before .before .before .if1 .left),
-      ← c .before .is-first .ensures,
-      c .if2 .left,
-    )
+returns-4 c = char-cut (c .before .before .before .before .before .before .before .before .before .before .before .args .s .now) (c .before .before .before .before .before .before .before .before .before .before .before .args .at) (c .before .before .before .before .before .before .before .before .before .if1 .left) _ (c .before .before .before .before .before .before .is-first .ensures) _ _ _ _ (c .before .before .before .before .due-after .ensures) (c .before .before .before .lowest .ensures) (c .before .before .highest .ensures) (c .before .continues .ensures) (c .before .before .before .before .before .if3 .taken) (c .if4 .left)
+
+returns-5 : tie.Need-returns-5
+returns-5 c = char-not (c .before .before .before .before .before .before .args .s .now) (c .before .before .before .before .before .before .args .at) (c .before .before .before .before .if1 .left) _ (c .before .is-first .ensures) (c .if3 .left)
 
 pub char-len-spec : {M : Type 1} → statement M
 char-len-spec =
@@ -88,6 +53,7 @@ char-len-spec =
     (tie.spec
     returns
     shared-slice-read-b
+    returns-2
     is-first-requires
     due-after-requires
     add-continues
@@ -95,6 +61,6 @@ char-len-spec =
     highest-requires
     continues-requires
     add-result
-    returns-2
     returns-3
-    returns-4)
+    returns-4
+    returns-5)
