@@ -1,0 +1,21 @@
+use borrow.Author.Needs.{needs}
+use Rattle.scalar.proofs.line_full.Statement.{statement}
+use Rattle.scalar.proofs.line_full.Tie as tie
+use Rattle.scalar.proofs.line_full.Reads as reads
+use Rattle.scalar.proofs.line_full.Lts as lts
+use Rattle.quoted.proofs.will_fold.Reads as will-fold-reads
+
+will-fold-requires : tie.Need-will-fold-requires
+will-fold-requires c κs = search needs
+
+add-result : tie.Need-add-result
+add-result c = search needs
+
+returns : tie.Need-returns
+returns c = rw (← (c .before .before .will-fold .ensures), c .before .if1 .taken)
+
+returns-2 : tie.Need-returns-2
+returns-2 c = rw (← (c .before .will-fold .ensures), c .if1 .left)
+
+pub line-full-spec : {M : Type 1} → statement M
+line-full-spec = tie.close (tie.spec will-fold-requires add-result returns returns-2)

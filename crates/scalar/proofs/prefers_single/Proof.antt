@@ -1,0 +1,18 @@
+use borrow.Author.Needs.{needs}
+use Rattle.scalar.proofs.prefers_single.Statement.{statement}
+use Rattle.scalar.proofs.prefers_single.Tie as tie
+use Rattle.scalar.proofs.prefers_single.Reads as reads
+use Rattle.scalar.proofs.prefers_single.Lts as lts
+use Rattle.scalar.proofs.quotable.Reads as quotable-reads
+
+quotable-requires : tie.Need-quotable-requires
+quotable-requires c κs = search needs
+
+returns : tie.Need-returns
+returns c = rw (c .before .if1 .taken) (c .quotable .ensures)
+
+returns-2 : tie.Need-returns-2
+returns-2 c = search needs
+
+pub prefers-single-spec : {M : Type 1} → statement M
+prefers-single-spec = tie.close (tie.spec quotable-requires returns returns-2)

@@ -1,0 +1,42 @@
+use Rattle.pen.specs.Pen.{and-then}
+use borrow.Author.Needs.{needs}
+use Rattle.scalar.proofs.put_block.Statement.{statement}
+use Rattle.scalar.proofs.put_block.Tie as tie
+use Rattle.scalar.proofs.put_block.Reads as reads
+use Rattle.scalar.proofs.put_block.Lts as lts
+use Rattle.blocks.proofs.put_block_body.Reads as put-block-body-reads
+use Rattle.blocks.proofs.put_header.Reads as put-header-reads
+use Rattle.quoted.proofs.put_quoted.Reads as put-quoted-reads
+
+put-quoted-requires : tie.Need-put-quoted-requires
+put-quoted-requires c κs = search needs
+
+same-length : tie.Need-same-length
+same-length c = search needs
+
+returns : tie.Need-returns
+returns c = rw (c .before .before .before .before .if1 .taken) (c .before .before .put-quoted .ensures)
+
+put-header-requires : tie.Need-put-header-requires
+put-header-requires c κs = search needs
+
+put-block-body-requires : tie.Need-put-block-body-requires
+put-block-body-requires c κs = search needs
+
+same-length-2 : tie.Need-same-length-2
+same-length-2 c = search needs
+
+returns-2 : tie.Need-returns-2
+returns-2 c = rw (c .before .before .before .before .before .before .before .before .if1 .left) (and-then _ _ _ (c .before .before .before .before .before .before .put-header .ensures) (c .before .before .put-block-body .ensures))
+
+pub put-block-spec : {M : Type 1} → statement M
+put-block-spec =
+    tie.close
+    (tie.spec
+    put-quoted-requires
+    same-length
+    returns
+    put-header-requires
+    put-block-body-requires
+    same-length-2
+    returns-2)

@@ -1,0 +1,41 @@
+use borrow.Author.Needs.{needs}
+use Rattle.scalar.proofs.put_plain.Statement.{statement}
+use Rattle.scalar.proofs.put_plain.Tie as tie
+use Rattle.scalar.proofs.put_plain.Reads as reads
+use Rattle.scalar.proofs.put_plain.Lts as lts
+use Rattle.pen.proofs.Writer.text.Reads as text-reads
+use Rattle.scalar.proofs.must_quote.Reads as must-quote-reads
+use Rattle.scalar.proofs.put_own.Reads as put-own-reads
+
+must-quote-requires : tie.Need-must-quote-requires
+must-quote-requires c κs = search needs
+
+put-own-requires : tie.Need-put-own-requires
+put-own-requires c κs = search needs
+
+same-length : tie.Need-same-length
+same-length c = search needs
+
+returns : tie.Need-returns
+returns c = rw (← (c .before .before .before .before .before .must-quote .ensures), c .before .before .before .before .if1 .taken) (c .before .before .put-own .ensures)
+
+text-requires : tie.Need-text-requires
+text-requires c κs = search needs
+
+same-length-2 : tie.Need-same-length-2
+same-length-2 c = search needs
+
+returns-2 : tie.Need-returns-2
+returns-2 c = rw (← (c .before .before .before .before .before .must-quote .ensures), c .before .before .before .before .if1 .left) (c .before .before .text .ensures)
+
+pub put-plain-spec : {M : Type 1} → statement M
+put-plain-spec =
+    tie.close
+    (tie.spec
+    must-quote-requires
+    put-own-requires
+    same-length
+    returns
+    text-requires
+    same-length-2
+    returns-2)
