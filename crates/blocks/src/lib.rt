@@ -16,13 +16,13 @@ pub struct Going {
 }
 
 // One byte of the text.
-fn line_turn(g: Going, out: &mut [u8], s: &[u8], i: usize, indent: usize) -> Going
-    requires { ⌜ (i < length (now s)) × (length (now out) < 2 ^ 62) ⌝ }
-    ensures { λ r. ⌜ puts (indented indent (r .fresh) (drop (i + 1) (now (s .entry)))) (pen (r .w) (now (out .exit)))
-        ≡ puts (indented indent (g .fresh) (drop i (now (s .entry)))) (pen (g .w) (now (out .entry))) ⌝ }
+fn line_turn(g: Going, out: &mut [u8], t: &[u8], i: usize, indent: usize) -> Going
+    requires { ⌜ (i < length (now t)) × (length (now out) < 2 ^ 62) ⌝ }
+    ensures { λ r. ⌜ puts (indented indent (r .fresh) (drop (i + 1) (now (t .entry)))) (pen (r .w) (now (out .exit)))
+        ≡ puts (indented indent (g .fresh) (drop i (now (t .entry)))) (pen (g .w) (now (out .entry))) ⌝ }
 {
     let w = g.w;
-    let b = s[i];
+    let b = t[i];
     if b == b'\n' {
         return Going {
             w: w.byte(out, b'\n'),
@@ -43,14 +43,14 @@ fn line_turn(g: Going, out: &mut [u8], s: &[u8], i: usize, indent: usize) -> Goi
 }
 
 // A text's lines, each at the indent where it is not empty.
-fn put_lines(w: Writer, out: &mut [u8], s: &[u8], indent: usize) -> Writer
+fn put_lines(w: Writer, out: &mut [u8], t: &[u8], indent: usize) -> Writer
     requires { ⌜ length (now out) < 2 ^ 62 ⌝ }
-    ensures { λ r. ⌜ pen r (now (out .exit)) ≡ puts (indented indent true (now (s .entry))) (pen w (now (out .entry))) ⌝ }
+    ensures { λ r. ⌜ pen r (now (out .exit)) ≡ puts (indented indent true (now (t .entry))) (pen w (now (out .entry))) ⌝ }
 {
     let mut g = Going { w: w, fresh: true };
     let mut i = 0;
-    while i < s.len() {
-        g = line_turn(g, out, s, i, indent);
+    while i < t.len() {
+        g = line_turn(g, out, t, i, indent);
         i += 1;
     }
     let w = g.w;
@@ -81,48 +81,48 @@ fn count_turn(n: usize, b: u8) -> usize
 }
 
 // How many line breaks a text ends in.
-fn trailing_breaks(s: &[u8]) -> usize
-    ensures { λ r. ⌜ (r ≡ trailing (now (s .entry))) × (r ≤ length (now (s .entry))) ⌝ }
+fn trailing_breaks(t: &[u8]) -> usize
+    ensures { λ r. ⌜ (r ≡ trailing (now (t .entry))) × (r ≤ length (now (t .entry))) ⌝ }
 {
     let mut n = 0;
     let mut i = 0;
-    while i < s.len() {
-        n = count_turn(n, s[i]);
+    while i < t.len() {
+        n = count_turn(n, t[i]);
         i += 1;
     }
     n
 }
 
 // The marker and the chomping mark.
-pub fn put_header(w: Writer, out: &mut [u8], s: &[u8], marker: u8) -> Writer
+pub fn put_header(w: Writer, out: &mut [u8], t: &[u8], marker: u8) -> Writer
     requires { ⌜ length (now out) < 2 ^ 62 ⌝ }
-    ensures { λ r. ⌜ pen r (now (out .exit)) ≡ puts (blockHeader marker (now (s .entry))) (pen w (now (out .entry))) ⌝ }
+    ensures { λ r. ⌜ pen r (now (out .exit)) ≡ puts (blockHeader marker (now (t .entry))) (pen w (now (out .entry))) ⌝ }
 {
-    let t = trailing_breaks(s);
+    let ends = trailing_breaks(t);
     let w = w.byte(out, marker);
-    if t == 0 {
+    if ends == 0 {
         return w.byte(out, b'-');
     }
-    if t > 1 {
+    if ends > 1 {
         return w.byte(out, b'+');
     }
-    if t == s.len() {
+    if ends == t.len() {
         return w.byte(out, b'+');
     }
     w
 }
 
 // After the header: its line break, the lines, and the breaks beyond the first.
-pub fn put_block_body(w: Writer, out: &mut [u8], s: &[u8], indent: usize) -> Writer
+pub fn put_block_body(w: Writer, out: &mut [u8], t: &[u8], indent: usize) -> Writer
     requires { ⌜ length (now out) < 2 ^ 62 ⌝ }
-    ensures { λ r. ⌜ pen r (now (out .exit)) ≡ puts (blockBody indent (now (s .entry))) (pen w (now (out .entry))) ⌝ }
+    ensures { λ r. ⌜ pen r (now (out .exit)) ≡ puts (blockBody indent (now (t .entry))) (pen w (now (out .entry))) ⌝ }
 {
-    let t = trailing_breaks(s);
-    let end = s.len() - t;
+    let ends = trailing_breaks(t);
+    let end = t.len() - ends;
     let w = w.byte(out, b'\n');
-    let w = put_lines(w, out, &s[0..end], indent);
-    if t > 1 {
-        return put_breaks(w, out, t - 1);
+    let w = put_lines(w, out, &t[0..end], indent);
+    if ends > 1 {
+        return put_breaks(w, out, ends - 1);
     }
     w
 }

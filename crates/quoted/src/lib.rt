@@ -128,26 +128,26 @@ fn single_piece(a: u8) -> Piece
 }
 
 // The byte at a place, 0 past the end.
-fn at(s: &[u8], i: usize) -> u8
-    ensures { λ r. ⌜ r ≡ getD (now (s .entry)) i 0 ⌝ }
+fn at(t: &[u8], i: usize) -> u8
+    ensures { λ r. ⌜ r ≡ getD (now (t .entry)) i 0 ⌝ }
 {
-    if i < s.len() {
-        return s[i];
+    if i < t.len() {
+        return t[i];
     }
     0
 }
 
 // The piece of the body that is written for the byte at a place.
-fn piece_at(s: &[u8], i: usize, single: bool) -> Piece
-    requires { ⌜ (i < length (now s)) × (length (now s) ≤ 65536) ⌝ }
-    ensures { λ r. ⌜ Stands (quoteBy single) (drop i (now (s .entry))) r ⌝ }
+fn piece_at(t: &[u8], i: usize, single: bool) -> Piece
+    requires { ⌜ (i < length (now t)) × (length (now t) ≤ 65536) ⌝ }
+    ensures { λ r. ⌜ Stands (quoteBy single) (drop i (now (t .entry))) r ⌝ }
 {
-    let a = at(s, i);
+    let a = at(t, i);
     if single {
         return single_piece(a);
     }
-    let b = at(s, i + 1);
-    let c = at(s, i + 2);
+    let b = at(t, i + 1);
+    let c = at(t, i + 2);
     double_piece(a, b, c)
 }
 
@@ -230,10 +230,10 @@ pub struct Going {
 }
 
 // One byte of the text.
-fn body_turn(g: Going, out: &mut [u8], s: &[u8], i: usize, single: bool) -> Going
-    requires { ⌜ (i < length (now s)) × (length (now s) ≤ 65536) × (length (now out) < 2 ^ 62) ⌝ }
-    ensures { λ r. ⌜ puts (body (quoteBy single) (r .skip) (drop (i + 1) (now (s .entry)))) (pen (r .w) (now (out .exit)))
-        ≡ puts (body (quoteBy single) (g .skip) (drop i (now (s .entry)))) (pen (g .w) (now (out .entry))) ⌝ }
+fn body_turn(g: Going, out: &mut [u8], t: &[u8], i: usize, single: bool) -> Going
+    requires { ⌜ (i < length (now t)) × (length (now t) ≤ 65536) × (length (now out) < 2 ^ 62) ⌝ }
+    ensures { λ r. ⌜ puts (body (quoteBy single) (r .skip) (drop (i + 1) (now (t .entry)))) (pen (r .w) (now (out .exit)))
+        ≡ puts (body (quoteBy single) (g .skip) (drop i (now (t .entry)))) (pen (g .w) (now (out .entry))) ⌝ }
 {
     let skip = g.skip;
     let w = g.w;
@@ -243,7 +243,7 @@ fn body_turn(g: Going, out: &mut [u8], s: &[u8], i: usize, single: bool) -> Goin
             skip: skip - 1,
         };
     }
-    let p = piece_at(s, i, single);
+    let p = piece_at(t, i, single);
     let w = put_piece(w, out, p);
     Going {
         w: w,
@@ -252,48 +252,48 @@ fn body_turn(g: Going, out: &mut [u8], s: &[u8], i: usize, single: bool) -> Goin
 }
 
 // The body of a text, not folded.
-pub fn put_body(w: Writer, out: &mut [u8], s: &[u8], single: bool) -> Writer
-    requires { ⌜ (length (now s) ≤ 65536) × (length (now out) < 2 ^ 62) ⌝ }
-    ensures { λ r. ⌜ pen r (now (out .exit)) ≡ puts (body (quoteBy single) 0 (now (s .entry))) (pen w (now (out .entry))) ⌝ }
+pub fn put_body(w: Writer, out: &mut [u8], t: &[u8], single: bool) -> Writer
+    requires { ⌜ (length (now t) ≤ 65536) × (length (now out) < 2 ^ 62) ⌝ }
+    ensures { λ r. ⌜ pen r (now (out .exit)) ≡ puts (body (quoteBy single) 0 (now (t .entry))) (pen w (now (out .entry))) ⌝ }
 {
     let mut g = Going { w: w, skip: 0 };
     let mut i = 0;
-    while i < s.len() {
-        g = body_turn(g, out, s, i, single);
+    while i < t.len() {
+        g = body_turn(g, out, t, i, single);
         i += 1;
     }
     g.w
 }
 
 // Whether a breakable space stands at a place. `after`: a space, or nothing, stands before it.
-fn breakable_at(s: &[u8], i: usize, after: bool) -> bool
-    requires { ⌜ i < length (now s) ⌝ }
-    ensures { λ r. ⌜ r ≡ breakable after (getD (now (s .entry)) i 0) (drop (i + 1) (now (s .entry))) ⌝ }
+fn breakable_at(t: &[u8], i: usize, after: bool) -> bool
+    requires { ⌜ i < length (now t) ⌝ }
+    ensures { λ r. ⌜ r ≡ breakable after (getD (now (t .entry)) i 0) (drop (i + 1) (now (t .entry))) ⌝ }
 {
     if after {
         return false;
     }
-    if s[i] != b' ' {
+    if t[i] != b' ' {
         return false;
     }
     let j = i + 1;
-    if j < s.len() {
-        return s[j] != b' ';
+    if j < t.len() {
+        return t[j] != b' ';
     }
     false
 }
 
 // Whether a text has a breakable space.
-pub fn has_breakable(s: &[u8]) -> bool
-    ensures { λ r. ⌜ r ≡ hasBreakable (now (s .entry)) ⌝ }
+pub fn has_breakable(t: &[u8]) -> bool
+    ensures { λ r. ⌜ r ≡ hasBreakable (now (t .entry)) ⌝ }
 {
     let mut after = true;
     let mut i = 0;
-    while i < s.len() {
-        if breakable_at(s, i, after) {
+    while i < t.len() {
+        if breakable_at(t, i, after) {
             return true;
         }
-        after = s[i] == b' ';
+        after = t[i] == b' ';
         i += 1;
     }
     false
@@ -306,19 +306,19 @@ pub struct Scan {
     pub after: bool,
 }
 
-fn scan_stops(g: Scan, s: &[u8], i: usize) -> bool
-    requires { ⌜ i < length (now s) ⌝ }
-    ensures { λ r. ⌜ r ≡ stops (g .skip) (g .after) (drop i (now (s .entry))) ⌝ }
+fn scan_stops(g: Scan, t: &[u8], i: usize) -> bool
+    requires { ⌜ i < length (now t) ⌝ }
+    ensures { λ r. ⌜ r ≡ stops (g .skip) (g .after) (drop i (now (t .entry))) ⌝ }
 {
     if g.skip > 0 {
         return false;
     }
-    breakable_at(s, i, g.after)
+    breakable_at(t, i, g.after)
 }
 
-fn scan_turn(g: Scan, s: &[u8], i: usize, single: bool) -> Scan
-    requires { ⌜ (i < length (now s)) × (length (now s) ≤ 65536) × (g .n ≤ 2 ^ 20) × (stops (g .skip) (g .after) (drop i (now s)) ≡ false) ⌝ }
-    ensures { λ r. ⌜ Measured (quoteBy single) (now (s .entry)) i g r ⌝ }
+fn scan_turn(g: Scan, t: &[u8], i: usize, single: bool) -> Scan
+    requires { ⌜ (i < length (now t)) × (length (now t) ≤ 65536) × (g .n ≤ 2 ^ 20) × (stops (g .skip) (g .after) (drop i (now t)) ≡ false) ⌝ }
+    ensures { λ r. ⌜ Measured (quoteBy single) (now (t .entry)) i g r ⌝ }
 {
     let skip = g.skip;
     if skip > 0 {
@@ -328,18 +328,18 @@ fn scan_turn(g: Scan, s: &[u8], i: usize, single: bool) -> Scan
             after: g.after,
         };
     }
-    let p = piece_at(s, i, single);
+    let p = piece_at(t, i, single);
     Scan {
         n: g.n + columns(p),
         skip: others(p),
-        after: s[i] == b' ',
+        after: t[i] == b' ',
     }
 }
 
 // The columns of the body from a place up to the next breakable space.
-fn ahead(s: &[u8], from: usize, single: bool) -> usize
-    requires { ⌜ (from ≤ length (now s)) × (length (now s) ≤ 65536) ⌝ }
-    ensures { λ r. ⌜ (r ≡ aheadOf (quoteBy single) (λ b. 1) 0 true (drop from (now (s .entry)))) × (r ≤ 6 * length (now (s .entry))) ⌝ }
+fn ahead(t: &[u8], from: usize, single: bool) -> usize
+    requires { ⌜ (from ≤ length (now t)) × (length (now t) ≤ 65536) ⌝ }
+    ensures { λ r. ⌜ (r ≡ aheadOf (quoteBy single) (λ b. 1) 0 true (drop from (now (t .entry)))) × (r ≤ 6 * length (now (t .entry))) ⌝ }
 {
     let mut g = Scan {
         n: 0,
@@ -347,11 +347,11 @@ fn ahead(s: &[u8], from: usize, single: bool) -> usize
         after: true,
     };
     let mut i = from;
-    while i < s.len() {
-        if scan_stops(g, s, i) {
+    while i < t.len() {
+        if scan_stops(g, t, i) {
             return g.n;
         }
-        g = scan_turn(g, s, i, single);
+        g = scan_turn(g, t, i, single);
         i += 1;
     }
     g.n
@@ -367,12 +367,12 @@ pub struct Line {
 }
 
 // A breakable space: kept where the next piece still fits the line.
-fn fold_gap(l: Line, out: &mut [u8], s: &[u8], i: usize, single: bool, f: Fold) -> Line
-    requires { ⌜ Passing (now s) i l (now out) ⌝ }
-    requires { ⌜ (l .skip ≡ 0) × (breakable (l .after) (getD (now s) i 0) (drop (i + 1) (now s)) ≡ true) ⌝ }
-    ensures { λ r. ⌜ Onward (quoteBy single) f (now (s .entry)) i l (now (out .entry)) r (now (out .exit)) ⌝ }
+fn fold_gap(l: Line, out: &mut [u8], t: &[u8], i: usize, single: bool, f: Fold) -> Line
+    requires { ⌜ Passing (now t) i l (now out) ⌝ }
+    requires { ⌜ (l .skip ≡ 0) × (breakable (l .after) (getD (now t) i 0) (drop (i + 1) (now t)) ≡ true) ⌝ }
+    ensures { λ r. ⌜ Onward (quoteBy single) f (now (t .entry)) i l (now (out .entry)) r (now (out .exit)) ⌝ }
 {
-    let need = l.col + 1 + ahead(s, i + 1, single);
+    let need = l.col + 1 + ahead(t, i + 1, single);
     let w = l.w;
     if need > f.width {
         let w = w.byte(out, b'\n');
@@ -394,26 +394,26 @@ fn fold_gap(l: Line, out: &mut [u8], s: &[u8], i: usize, single: bool, f: Fold) 
 }
 
 // Anything else: its piece.
-fn fold_piece(l: Line, out: &mut [u8], s: &[u8], i: usize, single: bool, f: Fold) -> Line
-    requires { ⌜ Passing (now s) i l (now out) ⌝ }
-    requires { ⌜ (l .skip ≡ 0) × (breakable (l .after) (getD (now s) i 0) (drop (i + 1) (now s)) ≡ false) ⌝ }
-    ensures { λ r. ⌜ Onward (quoteBy single) f (now (s .entry)) i l (now (out .entry)) r (now (out .exit)) ⌝ }
+fn fold_piece(l: Line, out: &mut [u8], t: &[u8], i: usize, single: bool, f: Fold) -> Line
+    requires { ⌜ Passing (now t) i l (now out) ⌝ }
+    requires { ⌜ (l .skip ≡ 0) × (breakable (l .after) (getD (now t) i 0) (drop (i + 1) (now t)) ≡ false) ⌝ }
+    ensures { λ r. ⌜ Onward (quoteBy single) f (now (t .entry)) i l (now (out .entry)) r (now (out .exit)) ⌝ }
 {
-    let p = piece_at(s, i, single);
+    let p = piece_at(t, i, single);
     let w = l.w;
     let w = put_piece(w, out, p);
     Line {
         w: w,
         col: l.col + columns(p),
         skip: others(p),
-        after: s[i] == b' ',
+        after: t[i] == b' ',
     }
 }
 
 // One byte of the text.
-fn fold_turn(l: Line, out: &mut [u8], s: &[u8], i: usize, single: bool, f: Fold) -> Line
-    requires { ⌜ Passing (now s) i l (now out) ⌝ }
-    ensures { λ r. ⌜ Onward (quoteBy single) f (now (s .entry)) i l (now (out .entry)) r (now (out .exit)) ⌝ }
+fn fold_turn(l: Line, out: &mut [u8], t: &[u8], i: usize, single: bool, f: Fold) -> Line
+    requires { ⌜ Passing (now t) i l (now out) ⌝ }
+    ensures { λ r. ⌜ Onward (quoteBy single) f (now (t .entry)) i l (now (out .entry)) r (now (out .exit)) ⌝ }
 {
     let skip = l.skip;
     let w = l.w;
@@ -425,23 +425,23 @@ fn fold_turn(l: Line, out: &mut [u8], s: &[u8], i: usize, single: bool, f: Fold)
             after: l.after,
         };
     }
-    if breakable_at(s, i, l.after) {
-        return fold_gap(l, out, s, i, single, f);
+    if breakable_at(t, i, l.after) {
+        return fold_gap(l, out, t, i, single, f);
     }
-    fold_piece(l, out, s, i, single, f)
+    fold_piece(l, out, t, i, single, f)
 }
 
 // The body of a text, folded: it begins at the column `start`.
 pub fn put_folded(
     w: Writer,
     out: &mut [u8],
-    s: &[u8],
+    t: &[u8],
     single: bool,
     start: usize,
     f: Fold,
 ) -> Writer
-    requires { ⌜ (length (now s) ≤ 65536) × (start ≤ 2 ^ 63) × (f .indent ≤ 2 ^ 63) × (length (now out) < 2 ^ 62) ⌝ }
-    ensures { λ r. ⌜ pen r (now (out .exit)) ≡ puts (foldedOf (quoteBy single) (folding f) 0 true start (now (s .entry))) (pen w (now (out .entry))) ⌝ }
+    requires { ⌜ (length (now t) ≤ 65536) × (start ≤ 2 ^ 63) × (f .indent ≤ 2 ^ 63) × (length (now out) < 2 ^ 62) ⌝ }
+    ensures { λ r. ⌜ pen r (now (out .exit)) ≡ puts (foldedOf (quoteBy single) (folding f) 0 true start (now (t .entry))) (pen w (now (out .entry))) ⌝ }
 {
     let mut l = Line {
         w: w,
@@ -450,8 +450,8 @@ pub fn put_folded(
         after: true,
     };
     let mut i = 0;
-    while i < s.len() {
-        l = fold_turn(l, out, s, i, single, f);
+    while i < t.len() {
+        l = fold_turn(l, out, t, i, single, f);
         i += 1;
     }
     l.w
@@ -477,13 +477,13 @@ pub fn will_fold(settings: Settings, key: bool) -> bool
 }
 
 // A text in quotes, not folded.
-pub fn put_quoted(w: Writer, out: &mut [u8], s: &[u8], single: bool) -> Writer
-    requires { ⌜ (length (now s) ≤ 65536) × (length (now out) < 2 ^ 62) ⌝ }
-    ensures { λ r. ⌜ pen r (now (out .exit)) ≡ puts (quotedAt single (now (s .entry))) (pen w (now (out .entry))) ⌝ }
+pub fn put_quoted(w: Writer, out: &mut [u8], t: &[u8], single: bool) -> Writer
+    requires { ⌜ (length (now t) ≤ 65536) × (length (now out) < 2 ^ 62) ⌝ }
+    ensures { λ r. ⌜ pen r (now (out .exit)) ≡ puts (quotedAt single (now (t .entry))) (pen w (now (out .entry))) ⌝ }
 {
     let q = quote_of(single);
     let w = w.byte(out, q);
-    let w = put_body(w, out, s, single);
+    let w = put_body(w, out, t, single);
     w.byte(out, q)
 }
 
@@ -492,11 +492,11 @@ pub fn put_quoted_folded(
     w: Writer,
     out: &mut [u8],
     settings: Settings,
-    s: &[u8],
+    t: &[u8],
     single: bool,
 ) -> Writer
-    requires { ⌜ (length (now s) ≤ 65536) × (w .column < 2 ^ 63) × (length (now out) < 2 ^ 62) ⌝ }
-    ensures { λ r. ⌜ pen r (now (out .exit)) ≡ puts (foldedAt settings single (now (s .entry)) (w .column)) (pen w (now (out .entry))) ⌝ }
+    requires { ⌜ (length (now t) ≤ 65536) × (w .column < 2 ^ 63) × (length (now out) < 2 ^ 62) ⌝ }
+    ensures { λ r. ⌜ pen r (now (out .exit)) ≡ puts (foldedAt settings single (now (t .entry)) (w .column)) (pen w (now (out .entry))) ⌝ }
 {
     let column = w.column;
     let f = Fold {
@@ -505,7 +505,7 @@ pub fn put_quoted_folded(
     };
     let q = quote_of(single);
     let w = w.byte(out, q);
-    let w = put_folded(w, out, s, single, column + 1, f);
+    let w = put_folded(w, out, t, single, column + 1, f);
     w.byte(out, q)
 }
 
@@ -516,13 +516,13 @@ pub fn put_styled(
     settings: Settings,
     key: bool,
     single: bool,
-    s: &[u8],
+    t: &[u8],
 ) -> Writer
-    requires { ⌜ (length (now s) ≤ 65536) × (w .column < 2 ^ 63) × (length (now out) < 2 ^ 62) ⌝ }
-    ensures { λ r. ⌜ pen r (now (out .exit)) ≡ puts (styledAt settings key single (now (s .entry)) (w .column)) (pen w (now (out .entry))) ⌝ }
+    requires { ⌜ (length (now t) ≤ 65536) × (w .column < 2 ^ 63) × (length (now out) < 2 ^ 62) ⌝ }
+    ensures { λ r. ⌜ pen r (now (out .exit)) ≡ puts (styledAt settings key single (now (t .entry)) (w .column)) (pen w (now (out .entry))) ⌝ }
 {
     if will_fold(settings, key) {
-        return put_quoted_folded(w, out, settings, s, single);
+        return put_quoted_folded(w, out, settings, t, single);
     }
-    put_quoted(w, out, s, single)
+    put_quoted(w, out, t, single)
 }

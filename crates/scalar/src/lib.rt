@@ -200,7 +200,9 @@ fn put_plain(
     t: &[u8],
 ) -> Writer
     requires { ⌜ (length (now t) ≤ 65536) × (w .column < 2 ^ 63) × (length (now out) < 2 ^ 62) ⌝ }
-    ensures { λ r. ⌜ pen r (now (out .exit)) ≡ puts (if mustQuote settings flow key (now (t .entry)) (w .column) then ownAt settings key (now (t .entry)) (w .column) else now (t .entry)) (pen w (now (out .entry))) ⌝ }
+    ensures { λ r. ⌜ pen r (now (out .exit)) ≡ puts
+        (if mustQuote settings flow key (now (t .entry)) (w .column) then ownAt settings key (now (t .entry)) (w .column) else now (t .entry))
+        (pen w (now (out .entry))) ⌝ }
 {
     if must_quote(settings, flow, key, t, w.column) {
         return put_own(w, out, settings, key, t);
@@ -211,7 +213,9 @@ fn put_plain(
 // A literal or folded scalar: in flow it is double quoted, and never folded.
 fn put_block(w: Writer, out: &mut [u8], flow: bool, t: &[u8], marker: u8, indent: usize) -> Writer
     requires { ⌜ (length (now t) ≤ 65536) × (length (now out) < 2 ^ 62) ⌝ }
-    ensures { λ r. ⌜ pen r (now (out .exit)) ≡ puts (if flow then quotedAt false (now (t .entry)) else blockHeader marker (now (t .entry)) ++ blockBody indent (now (t .entry))) (pen w (now (out .entry))) ⌝ }
+    ensures { λ r. ⌜ pen r (now (out .exit)) ≡ puts
+        (if flow then quotedAt false (now (t .entry)) else blockHeader marker (now (t .entry)) ++ blockBody indent (now (t .entry)))
+        (pen w (now (out .entry))) ⌝ }
 {
     if flow {
         return put_quoted(w, out, t, false);

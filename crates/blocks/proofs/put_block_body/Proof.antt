@@ -43,13 +43,13 @@ same-length : tie.Need-same-length
 same-length c = search needs
 
 returns : tie.Need-returns
-returns c = body-more _ (c .before .before .before .before .before .before .before .before .before .before .before .before .before .before .before .before .before .args .s .now) _ (c .before .before .before .before .before .before .before .before .before .before .before .before .before .before .trailing-breaks .ensures .0) (length (c .before .before .before .before .before .before .before .before .before .before .before .before .before .before .before .before .before .args .s .now) - c .before .before .before .before .before .before .before .before .before .before .before .before .before .before .trailing-breaks .result - 0) _ _ _ _ (c .before .before .before .before .if1 .taken) (c .before .before .before .before .before .before .before .before .before .before .before .before .byte .ensures) (c .before .before .before .before .before .before .before .put-lines .ensures) (omega arith) (c .before .before .put-breaks .ensures)
+returns c = body-more _ (c .before .before .before .before .before .before .before .before .before .before .before .before .before .before .before .before .before .args .t .now) _ (c .before .before .before .before .before .before .before .before .before .before .before .before .before .before .trailing-breaks .ensures .0) (length (c .before .before .before .before .before .before .before .before .before .before .before .before .before .before .before .before .before .args .t .now) - c .before .before .before .before .before .before .before .before .before .before .before .before .before .before .trailing-breaks .result - 0) _ _ _ _ (c .before .before .before .before .if1 .taken) (c .before .before .before .before .before .before .before .before .before .before .before .before .byte .ensures) (c .before .before .before .before .before .before .before .put-lines .ensures) (omega arith) (c .before .before .put-breaks .ensures)
 
 same-length-2 : tie.Need-same-length-2
 same-length-2 c = search needs
 
 returns-2 : tie.Need-returns-2
-returns-2 c = body-few _ (c .before .before .before .before .before .before .before .before .before .before .before .before .before .args .s .now) _ (c .before .before .before .before .before .before .before .before .before .before .trailing-breaks .ensures .0) (length (c .before .before .before .before .before .before .before .before .before .before .before .before .before .args .s .now) - c .before .before .before .before .before .before .before .before .before .before .trailing-breaks .result - 0) _ _ _ (c .if1 .left) (c .before .before .before .before .before .before .before .before .byte .ensures) (c .before .before .before .put-lines .ensures) (omega arith)
+returns-2 c = body-few _ (c .before .before .before .before .before .before .before .before .before .before .before .before .before .args .t .now) _ (c .before .before .before .before .before .before .before .before .before .before .trailing-breaks .ensures .0) (length (c .before .before .before .before .before .before .before .before .before .before .before .before .before .args .t .now) - c .before .before .before .before .before .before .before .before .before .before .trailing-breaks .result - 0) _ _ _ (c .if1 .left) (c .before .before .before .before .before .before .before .before .byte .ensures) (c .before .before .before .put-lines .ensures) (omega arith)
 
 pub put-block-body-spec : {M : Type 1} → statement M
 put-block-body-spec =

@@ -23,7 +23,7 @@ same-length c = search needs
 
 returns : tie.Need-returns
 unfolding puts
-returns c = rw (header-strip (c .before .before .before .before .before .before .before .before .before .before .before .before .args .marker) (c .before .before .before .before .before .before .before .before .before .before .before .before .args .s .now) _ (c .before .before .before .before .before .before .before .before .before .trailing-breaks .ensures .0) (c .before .before .before .before .if1 .taken)) (and-then _ (_ ∷ []) (45 ∷ []) (c .before .before .before .before .before .before .before .byte .ensures) (c .before .before .byte2 .ensures))
+returns c = rw (header-strip (c .before .before .before .before .before .before .before .before .before .before .before .before .args .marker) (c .before .before .before .before .before .before .before .before .before .before .before .before .args .t .now) _ (c .before .before .before .before .before .before .before .before .before .trailing-breaks .ensures .0) (c .before .before .before .before .if1 .taken)) (and-then _ (_ ∷ []) (45 ∷ []) (c .before .before .before .before .before .before .before .byte .ensures) (c .before .before .byte2 .ensures))
 
 byte-requires-3 : tie.Need-byte-requires-3
 byte-requires-3 c κs = search needs
@@ -33,7 +33,7 @@ same-length-2 c = search needs
 
 returns-2 : tie.Need-returns-2
 unfolding puts
-returns-2 c = rw (header-keep (c .before .before .before .before .before .before .before .before .before .before .before .before .before .args .marker) (c .before .before .before .before .before .before .before .before .before .before .before .before .before .args .s .now) _ (c .before .before .before .before .before .before .before .before .before .before .trailing-breaks .ensures .0) (c .before .before .before .before .if2 .taken)) (and-then _ (_ ∷ []) (43 ∷ []) (c .before .before .before .before .before .before .before .before .byte .ensures) (c .before .before .byte3 .ensures))
+returns-2 c = rw (header-keep (c .before .before .before .before .before .before .before .before .before .before .before .before .before .args .marker) (c .before .before .before .before .before .before .before .before .before .before .before .before .before .args .t .now) _ (c .before .before .before .before .before .before .before .before .before .before .trailing-breaks .ensures .0) (c .before .before .before .before .if2 .taken)) (and-then _ (_ ∷ []) (43 ∷ []) (c .before .before .before .before .before .before .before .before .byte .ensures) (c .before .before .byte3 .ensures))
 
 byte-requires-4 : tie.Need-byte-requires-4
 byte-requires-4 c κs = search needs
@@ -43,14 +43,14 @@ same-length-3 c = search needs
 
 returns-3 : tie.Need-returns-3
 unfolding puts
-returns-3 c = rw (header-breaks (c .before .before .before .before .before .before .before .before .before .before .before .before .before .before .args .marker) (c .before .before .before .before .before .before .before .before .before .before .before .before .before .before .args .s .now) _ (c .before .before .before .before .before .before .before .before .before .before .before .trailing-breaks .ensures .0) (c .before .before .before .before .before .before .if1 .left) (c .before .before .before .before .before .if2 .left) (c .before .before .before .before .if3 .taken)) (and-then _ (_ ∷ []) (43 ∷ []) (c .before .before .before .before .before .before .before .before .before .byte .ensures) (c .before .before .byte4 .ensures))
+returns-3 c = rw (header-breaks (c .before .before .before .before .before .before .before .before .before .before .before .before .before .before .args .marker) (c .before .before .before .before .before .before .before .before .before .before .before .before .before .before .args .t .now) _ (c .before .before .before .before .before .before .before .before .before .before .before .trailing-breaks .ensures .0) (c .before .before .before .before .before .before .if1 .left) (c .before .before .before .before .before .if2 .left) (c .before .before .before .before .if3 .taken)) (and-then _ (_ ∷ []) (43 ∷ []) (c .before .before .before .before .before .before .before .before .before .byte .ensures) (c .before .before .byte4 .ensures))
 
 same-length-4 : tie.Need-same-length-4
 same-length-4 c = search needs
 
 returns-4 : tie.Need-returns-4
 unfolding puts
-returns-4 c = rw (header-clip (c .before .before .before .before .before .before .before .before .before .before .args .marker) (c .before .before .before .before .before .before .before .before .before .before .args .s .now) _ (c .before .before .before .before .before .before .before .trailing-breaks .ensures .0) (c .before .before .if1 .left) (c .before .if2 .left) (c .if3 .left)) (c .before .before .before .before .before .byte .ensures)
+returns-4 c = rw (header-clip (c .before .before .before .before .before .before .before .before .before .before .args .marker) (c .before .before .before .before .before .before .before .before .before .before .args .t .now) _ (c .before .before .before .before .before .before .before .trailing-breaks .ensures .0) (c .before .before .if1 .left) (c .before .if2 .left) (c .if3 .left)) (c .before .before .before .before .before .byte .ensures)
 
 pub put-header-spec : {M : Type 1} → statement M
 put-header-spec =

@@ -34,11 +34,11 @@ loop-less : tie.Need-loop-less Inv-loop μ-loop
 loop-less c = search needs
 
 loop-again : tie.Need-loop-again Inv-loop μ-loop
-loop-again c = (counted-on 0 (c .before .before .before .before .before .args .s .now) (c .before .before .before .loop .i) (c .before .before .loop-test .taken) (c .before .before .before .loop .n) _ _ (c .count-turn .ensures) (c .before .before .before .loop .inv .0), (let b = counted-le (getD (c .before .before .before .before .before .args .s .now) (c .before .before .before .loop .i) 0) (c .before .before .before .loop .n) _ (c .count-turn .ensures) in let d = c .before .before .before .loop .inv .1 in omega arith), search needs)
+loop-again c = (counted-on 0 (c .before .before .before .before .before .args .t .now) (c .before .before .before .loop .i) (c .before .before .loop-test .taken) (c .before .before .before .loop .n) _ _ (c .count-turn .ensures) (c .before .before .before .loop .inv .0), (let b = counted-le (getD (c .before .before .before .before .before .args .t .now) (c .before .before .before .loop .i) 0) (c .before .before .before .loop .n) _ (c .count-turn .ensures) in let d = c .before .before .before .loop .inv .1 in omega arith), search needs)
 
 returns : tie.Need-returns Inv-loop μ-loop
 unfolding counted
-returns c = let e = rw (drop-of-length-le _ (c .loop-test .left)) at (c .before .loop .inv .0) in let z = e ∙ counted-all (c .before .before .before .args .s .now) in (z, rw z (trailing-le (c .before .before .before .args .s .now)))
+returns c = let e = rw (drop-of-length-le _ (c .loop-test .left)) at (c .before .loop .inv .0) in let z = e ∙ counted-all (c .before .before .before .args .t .now) in (z, rw z (trailing-le (c .before .before .before .args .t .now)))
 
 pub trailing-breaks-spec : {M : Type 1} → statement M
 trailing-breaks-spec =

@@ -42,7 +42,7 @@ loop-again : tie.Need-loop-again Inv-loop μ-loop
 loop-again c = (c .scan-turn .ensures .sum ∙ c .before .before .before .before .loop .inv .0, search needs, omega (arith, c .scan-turn .ensures .grows))
 
 returns-2 : tie.Need-returns-2 Inv-loop μ-loop
-returns-2 c = (measured-end _ _ _ _ _ (c .before .before .before .args .s .now) (c .before .loop .i) (c .before .loop .inv .0) (c .loop-test .left), (let a = c .before .loop .inv .1 in let b = c .before .loop .inv .2 in omega arith))
+returns-2 c = (measured-end _ _ _ _ _ (c .before .before .before .args .t .now) (c .before .loop .i) (c .before .loop .inv .0) (c .loop-test .left), (let a = c .before .loop .inv .1 in let b = c .before .loop .inv .2 in omega arith))
 
 pub ahead-spec : {M : Type 1} → statement M
 ahead-spec =

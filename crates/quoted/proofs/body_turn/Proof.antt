@@ -13,7 +13,7 @@ sub-t11 : tie.Need-sub-t11
 sub-t11 c = search needs
 
 returns : tie.Need-returns
-returns c = skips _ (c .before .before .before .before .args .s .now) (c .before .before .before .before .args .i) _ _ _ (c .before .before .before .before .pre .0) (c .if1 .taken) refl
+returns c = skips _ (c .before .before .before .before .args .t .now) (c .before .before .before .before .args .i) _ _ _ (c .before .before .before .before .pre .0) (c .if1 .taken) refl
 
 piece-at-requires : tie.Need-piece-at-requires
 piece-at-requires c κs = search needs
@@ -28,7 +28,7 @@ same-length : tie.Need-same-length
 same-length c = search needs
 
 returns-2 : tie.Need-returns-2
-returns-2 c = rw (zero-of (c .before .before .before .before .before .before .if1 .left)) (turn _ (c .before .before .before .before .before .before .before .before .before .before .args .s .now) (c .before .before .before .before .before .before .before .before .before .before .args .i) _ _ _ _ _ (c .before .before .before .before .before .before .before .before .before .before .pre .0) (c .before .before .before .before .before .piece-at .ensures) (c .before .before .before .put-piece .ensures) (c .others .ensures) refl)
+returns-2 c = rw (zero-of (c .before .before .before .before .before .before .if1 .left)) (turn _ (c .before .before .before .before .before .before .before .before .before .before .args .t .now) (c .before .before .before .before .before .before .before .before .before .before .args .i) _ _ _ _ _ (c .before .before .before .before .before .before .before .before .before .before .pre .0) (c .before .before .before .before .before .piece-at .ensures) (c .before .before .before .put-piece .ensures) (c .others .ensures) refl)
 
 pub body-turn-spec : {M : Type 1} → statement M
 body-turn-spec =

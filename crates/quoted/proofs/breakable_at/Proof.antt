@@ -22,10 +22,10 @@ shared-slice-read-result : tie.Need-shared-slice-read-result
 shared-slice-read-result c = search needs
 
 returns-3 : tie.Need-returns-3
-returns-3 c = break-inside _ _ (c .before .before .before .before .before .args .s .now) (c .before .before .before .before .before .args .i + 1) (c .before .before .before .before .if1 .left) (c .before .before .if2 .left) (c .before .if3 .taken)
+returns-3 c = break-inside _ _ (c .before .before .before .before .before .args .t .now) (c .before .before .before .before .before .args .i + 1) (c .before .before .before .before .if1 .left) (c .before .before .if2 .left) (c .before .if3 .taken)
 
 returns-4 : tie.Need-returns-4
-returns-4 c = break-last _ _ (c .before .before .before .before .args .s .now) (c .before .before .before .before .args .i + 1) (c .before .before .before .if1 .left) (c .before .if2 .left) (c .if3 .left)
+returns-4 c = break-last _ _ (c .before .before .before .before .args .t .now) (c .before .before .before .before .args .i + 1) (c .before .before .before .if1 .left) (c .before .if2 .left) (c .if3 .left)
 
 pub breakable-at-spec : {M : Type 1} → statement M
 breakable-at-spec =

@@ -33,7 +33,7 @@ same-length : tie.Need-same-length
 same-length c = search needs
 
 returns : tie.Need-returns
-returns c = record { same = fold-broken _ (c .before .before .before .before .before .before .before .before .before .before .before .before .before .before .before .args .s .now) (c .before .before .before .before .before .before .before .before .before .before .before .before .before .before .before .args .i) (c .before .before .before .before .before .before .before .before .before .before .before .before .before .before .before .pre .0 .inside) (folding (c .before .before .before .before .before .before .before .before .before .before .before .before .before .before .before .args .f)) _ _ _ _ _ _ _ (c .before .before .before .before .before .before .before .before .before .before .before .before .before .before .before .pre .1 .0) (c .before .before .before .before .before .before .before .before .before .before .before .before .before .before .before .pre .1 .1) (c .before .before .before .before .before .before .before .before .before .before .before .ahead .ensures .0) (c .before .before .before .before .before .before .before .before .if1 .taken) (c .before .before .before .before .before .before .byte .ensures) (c .before .before .spaces .ensures); grows = omega arith; long = c .before .before .spaces .kept .1 .0 ∙ c .before .before .before .before .before .before .byte .kept .1 .0 }
+returns c = record { same = fold-broken _ (c .before .before .before .before .before .before .before .before .before .before .before .before .before .before .before .args .t .now) (c .before .before .before .before .before .before .before .before .before .before .before .before .before .before .before .args .i) (c .before .before .before .before .before .before .before .before .before .before .before .before .before .before .before .pre .0 .inside) (folding (c .before .before .before .before .before .before .before .before .before .before .before .before .before .before .before .args .f)) _ _ _ _ _ _ _ (c .before .before .before .before .before .before .before .before .before .before .before .before .before .before .before .pre .1 .0) (c .before .before .before .before .before .before .before .before .before .before .before .before .before .before .before .pre .1 .1) (c .before .before .before .before .before .before .before .before .before .before .before .ahead .ensures .0) (c .before .before .before .before .before .before .before .before .if1 .taken) (c .before .before .before .before .before .before .byte .ensures) (c .before .before .spaces .ensures); grows = omega arith; long = c .before .before .spaces .kept .1 .0 ∙ c .before .before .before .before .before .before .byte .kept .1 .0 }
 
 byte-requires-2 : tie.Need-byte-requires-2
 byte-requires-2 c κs = search needs
@@ -45,7 +45,7 @@ same-length-2 : tie.Need-same-length-2
 same-length-2 c = search needs
 
 returns-2 : tie.Need-returns-2
-returns-2 c = record { same = fold-kept _ (c .before .before .before .before .before .before .before .before .before .before .before .before .args .s .now) (c .before .before .before .before .before .before .before .before .before .before .before .before .args .i) (c .before .before .before .before .before .before .before .before .before .before .before .before .pre .0 .inside) (folding (c .before .before .before .before .before .before .before .before .before .before .before .before .args .f)) _ _ _ _ _ _ (c .before .before .before .before .before .before .before .before .before .before .before .before .pre .1 .0) (c .before .before .before .before .before .before .before .before .before .before .before .before .pre .1 .1) (c .before .before .before .before .before .before .before .before .ahead .ensures .0) (c .before .before .before .before .before .if1 .left) (c .before .before .before .byte2 .ensures); grows = omega arith; long = c .before .before .before .byte2 .kept .1 .0 }
+returns-2 c = record { same = fold-kept _ (c .before .before .before .before .before .before .before .before .before .before .before .before .args .t .now) (c .before .before .before .before .before .before .before .before .before .before .before .before .args .i) (c .before .before .before .before .before .before .before .before .before .before .before .before .pre .0 .inside) (folding (c .before .before .before .before .before .before .before .before .before .before .before .before .args .f)) _ _ _ _ _ _ (c .before .before .before .before .before .before .before .before .before .before .before .before .pre .1 .0) (c .before .before .before .before .before .before .before .before .before .before .before .before .pre .1 .1) (c .before .before .before .before .before .before .before .before .ahead .ensures .0) (c .before .before .before .before .before .if1 .left) (c .before .before .before .byte2 .ensures); grows = omega arith; long = c .before .before .before .byte2 .kept .1 .0 }
 
 pub fold-gap-spec : {M : Type 1} → statement M
 fold-gap-spec =

@@ -32,7 +32,7 @@ same-length : tie.Need-same-length
 same-length c = search needs
 
 returns : tie.Need-returns
-returns c = record { same = fold-on _ (c .before .before .before .before .before .before .before .before .before .before .before .before .args .s .now) (c .before .before .before .before .before .before .before .before .before .before .before .before .args .i) (c .before .before .before .before .before .before .before .before .before .before .before .before .pre .0 .inside) _ _ _ _ _ _ _ _ _ (c .before .before .before .before .before .before .before .before .before .before .before .before .pre .1 .0) (c .before .before .before .before .before .before .before .before .before .before .before .before .pre .1 .1) (c .before .before .before .before .before .before .before .before .before .piece-at .ensures) (c .before .before .before .columns .ensures .0) (c .before .others .ensures) (c .before .before .before .before .before .before .put-piece .ensures); grows = omega (arith, c .before .before .before .columns .ensures .1); long = c .before .before .before .before .before .before .put-piece .kept .1 .0 }
+returns c = record { same = fold-on _ (c .before .before .before .before .before .before .before .before .before .before .before .before .args .t .now) (c .before .before .before .before .before .before .before .before .before .before .before .before .args .i) (c .before .before .before .before .before .before .before .before .before .before .before .before .pre .0 .inside) _ _ _ _ _ _ _ _ _ (c .before .before .before .before .before .before .before .before .before .before .before .before .pre .1 .0) (c .before .before .before .before .before .before .before .before .before .before .before .before .pre .1 .1) (c .before .before .before .before .before .before .before .before .before .piece-at .ensures) (c .before .before .before .columns .ensures .0) (c .before .others .ensures) (c .before .before .before .before .before .before .put-piece .ensures); grows = omega (arith, c .before .before .before .columns .ensures .1); long = c .before .before .before .before .before .before .put-piece .kept .1 .0 }
 
 pub fold-piece-spec : {M : Type 1} → statement M
 fold-piece-spec =

@@ -16,7 +16,7 @@ sub-t10 : tie.Need-sub-t10
 sub-t10 c = search needs
 
 returns : tie.Need-returns
-returns c = record { same = fold-skip _ (c .before .before .before .before .args .s .now) (c .before .before .before .before .args .i) (c .before .before .before .before .pre .inside) (folding (c .before .before .before .before .args .f)) _ _ _ _ (c .if1 .taken); grows = omega arith; long = refl }
+returns c = record { same = fold-skip _ (c .before .before .before .before .args .t .now) (c .before .before .before .before .args .i) (c .before .before .before .before .pre .inside) (folding (c .before .before .before .before .args .f)) _ _ _ _ (c .if1 .taken); grows = omega arith; long = refl }
 
 breakable-at-requires : tie.Need-breakable-at-requires
 breakable-at-requires c κs = search needs

@@ -26,7 +26,7 @@ breakable-at-requires c κs = search needs
 
 returns : tie.Need-returns Inv-loop μ-loop
 unfolding hasBreakable
-returns c = sym (breaks-here (c .before .before .before .before .before .args .s .now) (c .before .before .before .loop .i) (c .before .before .before .loop .after) (c .before .before .loop-test .taken) (sym (c .before .breakable-at .ensures) ∙ c .if1 .taken)) ∙ c .before .before .before .loop .inv .0
+returns c = sym (breaks-here (c .before .before .before .before .before .args .t .now) (c .before .before .before .loop .i) (c .before .before .before .loop .after) (c .before .before .loop-test .taken) (sym (c .before .breakable-at .ensures) ∙ c .if1 .taken)) ∙ c .before .before .before .loop .inv .0
 
 shared-slice-read-after : tie.Need-shared-slice-read-after Inv-loop μ-loop
 shared-slice-read-after c = search needs
@@ -38,7 +38,7 @@ loop-less : tie.Need-loop-less Inv-loop μ-loop
 loop-less c = search needs
 
 loop-again : tie.Need-loop-again Inv-loop μ-loop
-loop-again c = (breaks-on (c .before .before .before .before .before .before .args .s .now) (c .before .before .before .before .loop .i) (c .before .before .before .before .loop .after) (c .before .before .before .loop-test .taken) (sym (c .before .before .breakable-at .ensures) ∙ c .before .if1 .left) ∙ c .before .before .before .before .loop .inv .0, search needs)
+loop-again c = (breaks-on (c .before .before .before .before .before .before .args .t .now) (c .before .before .before .before .loop .i) (c .before .before .before .before .loop .after) (c .before .before .before .loop-test .taken) (sym (c .before .before .breakable-at .ensures) ∙ c .before .if1 .left) ∙ c .before .before .before .before .loop .inv .0, search needs)
 
 returns-2 : tie.Need-returns-2 Inv-loop μ-loop
 unfolding hasBreakable breakableIn

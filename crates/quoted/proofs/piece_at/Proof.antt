@@ -15,7 +15,7 @@ single-piece-requires : tie.Need-single-piece-requires
 single-piece-requires c κs = search needs
 
 returns : tie.Need-returns
-returns c = stands-single (c .before .before .before .before .args .s .now) (c .before .before .before .before .args .i) _ _ _ (c .before .if1 .taken) (c .before .before .at .ensures) (c .single-piece .ensures)
+returns c = stands-single (c .before .before .before .before .args .t .now) (c .before .before .before .before .args .i) _ _ _ (c .before .if1 .taken) (c .before .before .at .ensures) (c .single-piece .ensures)
 
 add-at : tie.Need-add-at
 add-at c = search needs
@@ -33,7 +33,7 @@ double-piece-requires : tie.Need-double-piece-requires
 double-piece-requires c κs = search needs
 
 returns-2 : tie.Need-returns-2
-returns-2 c = stands-double (c .before .before .before .before .before .before .args .s .now) (c .before .before .before .before .before .before .args .i) _ _ _ _ _ (c .before .before .before .if1 .left) (c .before .before .before .before .at .ensures) (c .before .before .at2 .ensures) (c .before .at3 .ensures) (c .double-piece .ensures)
+returns-2 c = stands-double (c .before .before .before .before .before .before .args .t .now) (c .before .before .before .before .before .before .args .i) _ _ _ _ _ (c .before .before .before .if1 .left) (c .before .before .before .before .at .ensures) (c .before .before .at2 .ensures) (c .before .at3 .ensures) (c .double-piece .ensures)
 
 pub piece-at-spec : {M : Type 1} → statement M
 piece-at-spec =
