@@ -1,4 +1,4 @@
-// Reading a deck, totally: past the deck's end a byte is 0, an unknown kind reads as null, and no cursor is handed back past the end.
+// Reading a deck, totally: past the deck's end a byte is 0, an unknown kind reads as null, and the cursor after a record is never past the end.
 use definition::Cursor;
 use definition::File;
 use definition::Form;

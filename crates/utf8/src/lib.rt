@@ -36,7 +36,7 @@ fn due_after(b: u8) -> usize
     }
 }
 
-// The second byte of a character lies from here,
+// The least second byte after a first byte.
 fn lowest(b: u8) -> u8
     ensures { λ r. ⌜ r ≡ low b ⌝ }
 {
@@ -47,7 +47,7 @@ fn lowest(b: u8) -> u8
     }
 }
 
-// to here.
+// The greatest second byte after a first byte.
 fn highest(b: u8) -> u8
     ensures { λ r. ⌜ r ≡ high b ⌝ }
 {
