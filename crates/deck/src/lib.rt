@@ -13,7 +13,7 @@ use definition::Text;
 use definition::Trailer;
 use definition::Words;
 ghost use mathlib.Core.Path.{_≡_};
-ghost use Prim.Native.Nat.{_+_, _<_, _≤_};
+ghost use Prim.Native.Nat.{_+_, _<_, _≤_, _^_};
 ghost use lib.ListN.{length, take, drop};
 ghost use Rattle.definition.specs.Records.{byteAt, wordAt, textAt, styleOf, formOf, sideOf, fileAt, includeAt, headingAt, trailerAt, linesAt, wordsAt, groupAt, recordOf, kindAt, recordAt, sizeOf};
 ghost use Rattle.definition.specs.Deck.{isNode, words};
@@ -46,7 +46,7 @@ pub fn byte(deck: &[u8], at: usize) -> usize
 
 // The number of two bytes, low byte first.
 pub fn word(deck: &[u8], at: usize) -> usize
-    requires { ⌜ at ≤ length (now deck) + 16 ⌝ }
+    requires { ⌜ at < 2 ^ 63 + 32 ⌝ }
     ensures { λ r. ⌜ (r ≡ wordAt (now (deck .entry)) at) × (r < 65536) ⌝ }
 {
     byte(deck, at) + 256 * byte(deck, at + 1)
@@ -54,7 +54,7 @@ pub fn word(deck: &[u8], at: usize) -> usize
 
 // The reference at a cursor. No other function reads one.
 pub fn text_at(deck: &[u8], c: Cursor) -> Reference
-    requires { ⌜ c .at ≤ length (now deck) + 8 ⌝ }
+    requires { ⌜ c .at < 2 ^ 63 + 16 ⌝ }
     ensures { λ r. ⌜ Referred (now (deck .entry)) c r ⌝ }
 {
     let at = c.at;
@@ -121,8 +121,8 @@ fn include_at(deck: &[u8], c: Cursor) -> Include
     Include { tag, target, file }
 }
 
-fn heading_at(deck: &[u8], c: Cursor) -> Heading
-    requires { ⌜ c .at ≤ length (now deck) + 4 ⌝ }
+pub fn heading_at(deck: &[u8], c: Cursor) -> Heading
+    requires { ⌜ c .at < 2 ^ 63 + 8 ⌝ }
     ensures { λ r. ⌜ r ≡ headingAt (now (deck .entry)) (c .at) ⌝ }
 {
     let first = text_at(deck, c);
@@ -178,8 +178,8 @@ fn group_at(deck: &[u8], c: Cursor) -> Group
 }
 
 // The reference alone.
-fn text_only(deck: &[u8], c: Cursor) -> Text
-    requires { ⌜ c .at ≤ length (now deck) + 8 ⌝ }
+pub fn text_only(deck: &[u8], c: Cursor) -> Text
+    requires { ⌜ c .at < 2 ^ 63 + 16 ⌝ }
     ensures { λ r. ⌜ r ≡ textAt (now (deck .entry)) (c .at) ⌝ }
 {
     let r = text_at(deck, c);
