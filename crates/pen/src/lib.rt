@@ -2,7 +2,7 @@
 // finished bytes fit is known also where the last line break is dropped again.
 ghost use mathlib.Core.Path.{_≡_};
 ghost use Prim.Native.Nat.{_+_, _<_, _^_, min, max};
-ghost use lib.ListN.{length};
+ghost use lib.ListN.{length, replicate};
 ghost use mathlib.Core.Bool.{Bool};
 ghost use Rattle.definition.specs.Base.{spaces};
 ghost use Rattle.definition.specs.Pen.{hashed, endsClosed};
@@ -88,17 +88,25 @@ impl Writer {
         w
     }
 
-    pub fn spaces(self, out: &mut [u8], n: usize) -> Self
+    // One byte again and again.
+    pub fn again(self, out: &mut [u8], b: u8, n: usize) -> Self
         requires { ⌜ length (now out) < 2 ^ 62 ⌝ }
-        ensures { λ r. ⌜ pen r (now (out .exit)) ≡ puts (spaces n) (pen self (now (out .entry))) ⌝ }
+        ensures { λ r. ⌜ pen r (now (out .exit)) ≡ puts (replicate n b) (pen self (now (out .entry))) ⌝ }
     {
         let mut w = self;
         let mut left = n;
         while left > 0 {
-            w = w.byte(out, b' ');
+            w = w.byte(out, b);
             left -= 1;
         }
         w
+    }
+
+    pub fn spaces(self, out: &mut [u8], n: usize) -> Self
+        requires { ⌜ length (now out) < 2 ^ 62 ⌝ }
+        ensures { λ r. ⌜ pen r (now (out .exit)) ≡ puts (spaces n) (pen self (now (out .entry))) ⌝ }
+    {
+        self.again(out, b' ', n)
     }
 
     pub fn end_line(self, out: &mut [u8]) -> Self

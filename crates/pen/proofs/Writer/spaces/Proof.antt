@@ -1,66 +1,23 @@
-use mathlib.Core.Path.{_≡_, _∙_}
-use Prim.Native.Nat.{ℕ, zero, suc, _-_, _<_}
-use native.Mathlib.Omega.{arith}
-use lib.ListN.{length, replicate}
-use borrow.Author.Needs.{needs}
 use Rattle.definition.specs.Base.{spaces}
-use Rattle.pen.specs.Pen.{Pen, pen, puts, put1}
+use borrow.Author.Needs.{needs}
 use Rattle.pen.proofs.Writer.spaces.Statement.{statement}
 use Rattle.pen.proofs.Writer.spaces.Tie as tie
 use Rattle.pen.proofs.Writer.spaces.Reads as reads
 use Rattle.pen.proofs.Writer.spaces.Lts as lts
-use Rattle.pen.proofs.Writer.byte.Reads as byte-reads
+use Rattle.pen.proofs.Writer.again.Reads as again-reads
 
-turn : (k : ℕ) (P P′ Z : Pen) → 0 < k → P′ ≡ put1 P 32 → puts (replicate k 32) P ≡ Z → puts (replicate (k - 1) 32) P′ ≡ Z
-unfolding puts
-turn zero P P′ Z h e inv = absurd (omega arith)
-turn (suc k) P P′ Z h e inv = let s : suc k - 1 ≡ k = omega arith in rw (s, e) inv
+-- src/lib.rt:109:9
+again-requires : tie.Need-again-requires
+again-requires c κs = search needs
 
-abbrev Inv-loop : tie.InvT-loop
-Inv-loop out₀ n w₀ left₀ out w left = (puts (replicate left 32) (pen w out) ≡ puts (replicate n 32) (pen w₀ out₀)) × (length out ≡ length out₀)
+-- src/lib.rt:105:5
+same-length : tie.Need-same-length
+same-length c = search needs
 
-abbrev μ-loop : tie.MeasureT-loop
-μ-loop out₀ n w₀ left₀ out w left = left
-
--- src/lib.rt:97:9
-loop-holds : tie.Need-loop-holds Inv-loop μ-loop
-loop-holds c = search needs
-
--- src/lib.rt:98:13
-byte-requires : tie.Need-byte-requires Inv-loop μ-loop
-byte-requires c κs = let e = c .before .before .loop .inv .1 in let h = c .before .before .before .before .pre in omega arith
-
--- src/lib.rt:99:13
-sub-left : tie.Need-sub-left Inv-loop μ-loop
-sub-left c = search needs
-
--- src/lib.rt:97:9
-loop-less : tie.Need-loop-less Inv-loop μ-loop
-loop-less c = search needs
-
--- src/lib.rt:97:9
-loop-again : tie.Need-loop-again Inv-loop μ-loop
-loop-again c = (turn (c .before .before .before .before .before .loop .left) _ _ _ (c .before .before .before .before .loop-test .taken) (c .before .before .byte .ensures) (c .before .before .before .before .before .loop .inv .0), c .before .before .byte .kept .1 .0 ∙ c .before .before .before .before .before .loop .inv .1)
-
--- src/lib.rt:91:5
-same-length : tie.Need-same-length Inv-loop μ-loop
-same-length c = c .before .loop .inv .1
-
--- src/lib.rt:91:5
-returns : tie.Need-returns Inv-loop μ-loop
-unfolding puts spaces
-returns c = let e : c .before .loop .left ≡ 0 = omega (arith, c .loop-test .left) in rw e at (c .before .loop .inv .0)
+-- src/lib.rt:105:5
+returns : tie.Need-returns
+unfolding spaces
+returns c = c .before .before .again .ensures
 
 pub spaces-spec : {M : Type 1} → statement M
-spaces-spec =
-    tie.close
-    (tie.spec
-    Inv-loop
-    μ-loop
-    loop-holds
-    byte-requires
-    sub-left
-    loop-less
-    loop-again
-    same-length
-    returns)
+spaces-spec = tie.close (tie.spec again-requires same-length returns)

@@ -1,0 +1,104 @@
+-- Laws of the parts of lines, for the functions that write them.
+-- Assumes nothing.
+use mathlib.Core.Path.{_≡_, refl, sym, ap, _∙_}
+use Prim.Native.Nat.{ℕ, zero, suc, _+_, _-_, _<_, _≤_, _^_}
+use native.Mathlib.Omega.{arith}
+use mathlib.Core.Bool.{Bool, true, false, not}
+use mathlib.Core.List.{[], _∷_, _++_}
+use lib.Dec.{eqb}
+use borrow.Author.Tests.{eq-eqb, ne-eqb}
+use Rattle.definition.specs.Base.{Bytes, if_then_else_, isSome}
+use Rattle.definition.specs.Ascii.{SP}
+use Rattle.definition.specs.Tree.{Kept}
+use Rattle.definition.specs.Deck.{words, inlineOf, sourceOf}
+use Rattle.definition.specs.Pen.{Script, put, comment, directive, nothing}
+use Rattle.definition.specs.Walk.{prop, directiveOf}
+use Rattle.definition.specs.declared.Cursor.{Cursor}
+use Rattle.definition.specs.declared.Settings.{Settings}
+use Rattle.node.specs.declared.Held.{Held}
+use Rattle.node.specs.declared.Lead.{Lead}
+use Rattle.node.specs.declared.Origin.{Origin}
+use Rattle.node.specs.declared.Remark.{Remark}
+use Rattle.node.specs.declared.Run.{Run}
+use Rattle.node.specs.Total.{heldOf, originOf, remarkOf, keptOf, broughtOf}
+use Rattle.pen.specs.Pen.{Pen, pen, put1, puts, and-then, noteOf, noted, ink}
+use Rattle.parts.specs.declared.Entries.{Entries}
+use Rattle.parts.specs.declared.Entries.the-variants.{Heads, Over, Under, Foots, Directives}
+use Rattle.parts.specs.Draws.{Draws, stays}
+use Rattle.parts.specs.Lines.{tagFirst}
+use Rattle.parts.specs.Runs.{stride, entry, entries, runOf, repeated, repeated-drawn, Short}
+
+-- ---- a part that may be absent
+
+pub no-remark : (pool : Bytes) (place : ℕ) (m : Remark) (P : Pen) → m .present ≡ 0 → Draws (comment place (remarkOf pool m)) P P
+unfolding ink noteOf remarkOf
+no-remark pool place m P e = record { drawn = λ s. rw (eq-eqb _ _ e) }
+
+pub some-remark :
+    (pool : Bytes) (place : ℕ) (m : Remark) (t : Bytes) (P Q : Pen) → (m .present ≡ 0 → ⊥) → t ≡ words pool (m .trailer .text)
+    → Q ≡ noted place (record { text = t; spaces = m .trailer .spaces }) P → Draws (comment place (remarkOf pool m)) P Q
+unfolding ink noteOf remarkOf inlineOf
+some-remark pool place m t P Q e f d = record { drawn = λ s. rw (ne-eqb _ _ e, ← f) d }
+
+pub no-prop : (pool before : Bytes) (h : Held) (after : Bytes) (P : Pen) → h .present ≡ 0 → Draws (prop before (heldOf pool h) after) P P
+unfolding ink prop heldOf nothing puts
+no-prop pool before h after P e = record { drawn = λ s. rw (eq-eqb _ _ e) }
+
+pub some-prop :
+    (pool before : Bytes) (h : Held) (after t : Bytes) (P Q R S : Pen) → (h .present ≡ 0 → ⊥) → t ≡ words pool (h .text)
+    → Q ≡ puts before P → R ≡ puts t Q → S ≡ puts after R → Draws (prop before (heldOf pool h) after) P S
+unfolding ink prop heldOf
+some-prop pool before h after t P Q R S e f x y z = record { drawn = λ s. rw (ne-eqb _ _ e, ← f) (and-then P (before ++ t) after (and-then P before t x y) z) }
+
+pub no-directive : (pool : Bytes) (o : Origin) (P : Pen) → o .present ≡ 0 → Draws (put directive (directiveOf (originOf pool o))) P P
+unfolding ink directiveOf originOf puts
+no-directive pool o P e = record { drawn = λ s. rw (eq-eqb _ _ e) }
+
+pub some-directive :
+    (pool : Bytes) (o : Origin) (t u : Bytes) (P Q R S : Pen) → (o .present ≡ 0 → ⊥) → t ≡ words pool (o .include .tag) → u ≡ words pool (o .include .target)
+    → Q ≡ puts t P → R ≡ put1 Q SP → S ≡ puts u R → Draws (put directive (directiveOf (originOf pool o))) P S
+unfolding ink directiveOf originOf sourceOf puts
+some-directive pool o t u P Q R S e f g x y z =
+    record { drawn = λ s. rw (ne-eqb _ _ e, ← f, ← g) (and-then P t (SP ∷ u) x (z ∙ ap (puts u) y)) }
+
+-- the tag before no anchor, and before one
+pub alone : (pool : Bytes) (l : Lead) (P Q : Pen) → l .anchor .present ≡ 0 → Draws (prop [] (heldOf pool (l .tag)) []) P Q → Draws (tagFirst (broughtOf pool l)) P Q
+unfolding tagFirst broughtOf isSome
+alone pool l P Q e d = unfold heldOf in rw (eq-eqb _ _ e) d
+
+pub followed : (pool : Bytes) (l : Lead) (P Q : Pen) → (l .anchor .present ≡ 0 → ⊥) → Draws (prop [] (heldOf pool (l .tag)) (SP ∷ [])) P Q → Draws (tagFirst (broughtOf pool l)) P Q
+unfolding tagFirst broughtOf isSome
+followed pool l P Q e d = unfold heldOf in rw (ne-eqb _ _ e) d
+
+-- ---- records one after another
+
+-- two pens that end alike: under any settings, a from P and b from Q
+pub record Level (a : Script) (P : Pen) (b : Script) (Q : Pen) : Type 0 where
+  pub same : (s : Settings) → ink s a P ≡ ink s b Q
+
+pub turn :
+    (deck pool : Bytes) (e : Entries) (i left : ℕ) (here : Cursor) (step : ℕ) (P P′ : Pen) (b : Script) (Q : Pen) → 0 < left → step ≡ stride e
+    → Draws (entry deck pool e i here) P P′ → Level (entries deck pool e i left here) P b Q
+    → Level (entries deck pool e i (left - 1) (record { at = here .at + step })) P′ b Q
+unfolding ink entries
+turn deck pool e i zero here step P P′ b Q l k d h = absurd (omega arith)
+turn deck pool e i (suc n) here step P P′ b Q l k d h =
+    let z : suc n - 1 ≡ n = omega arith in
+    record { same = λ s. rw (z, k, d .drawn s) (h .same s) }
+
+pub done :
+    (deck pool : Bytes) (e : Entries) (i left : ℕ) (here : Cursor) (P Q : Pen) {b : Script} → left ≡ 0 → Level (entries deck pool e i left here) P b Q → Draws b Q P
+unfolding ink entries nothing puts
+done deck pool e i left here P Q z h = record { drawn = λ s. rw z at (h .same s) }
+
+pub short-run : (e : Entries) (l : Lead) (r : Run) → Short l → r ≡ runOf e l → (r .first .at < 2 ^ 61) × (r .count < 2 ^ 58)
+unfolding runOf
+short-run Heads l r h k = rw k (omega (arith, h .heads-first), omega (arith, h .heads-count))
+short-run Over l r h k = rw k (omega (arith, h .heads-first), omega (arith, h .heads-count))
+short-run Under l r h k = rw k (omega (arith, h .heads-first), omega (arith, h .heads-count))
+short-run Foots l r h k = rw k (omega (arith, h .foots-first), omega (arith, h .foots-count))
+short-run Directives l r h k = rw k (omega (arith, h .directives-first), omega (arith, h .directives-count))
+
+pub of-run :
+    (deck pool : Bytes) (e : Entries) (i : ℕ) (l : Lead) {r : Run} {P Q : Pen} → r ≡ runOf e l → Draws (entries deck pool e i (r .count) (r .first)) P Q → Draws (repeated e (keptOf deck pool l) i) P Q
+of-run deck pool e i l {P = P} k d = record { drawn = λ s. rw k at (d .drawn s) ∙ sym (repeated-drawn deck pool i s e l P) }

@@ -1,0 +1,36 @@
+use Rattle.definition.specs.Walk.{commentLine}
+use Rattle.definition.specs.Pen.{remark, space, newline, indent}
+use Rattle.parts.specs.Draws.{both, of-puts, of-byte}
+use borrow.Author.Needs.{needs}
+use Rattle.parts.proofs.comment_line.Statement.{statement}
+use Rattle.parts.proofs.comment_line.Tie as tie
+use Rattle.parts.proofs.comment_line.Reads as reads
+use Rattle.parts.proofs.comment_line.Lts as lts
+use Rattle.pen.proofs.Writer.byte.Reads as byte-reads
+use Rattle.pen.proofs.Writer.hashed.Reads as hashed-reads
+use Rattle.pen.proofs.Writer.spaces.Reads as spaces-reads
+
+-- src/lib.rt:39:9
+spaces-requires : tie.Need-spaces-requires
+spaces-requires c κs = search needs
+
+-- src/lib.rt:40:9
+hashed-requires : tie.Need-hashed-requires
+hashed-requires c κs = search needs
+
+-- src/lib.rt:41:5
+byte-requires : tie.Need-byte-requires
+byte-requires c κs = search needs
+
+-- src/lib.rt:35:1
+same-length : tie.Need-same-length
+same-length c = search needs
+
+-- src/lib.rt:35:1
+returns : tie.Need-returns
+unfolding commentLine indent newline
+returns c = both _ _ (of-puts space _ (c .before .before .before .before .before .before .before .before .before .before .spaces .ensures)) (both _ _ (of-puts remark _ (c .before .before .before .before .before .before .hashed .ensures)) (of-byte space _ (c .before .before .byte .ensures)))
+
+pub comment-line-spec : {M : Type 1} → statement M
+comment-line-spec =
+    tie.close (tie.spec spaces-requires hashed-requires byte-requires same-length returns)

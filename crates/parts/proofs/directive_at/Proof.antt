@@ -1,0 +1,26 @@
+use borrow.Author.Needs.{needs}
+use Rattle.parts.proofs.directive_at.Statement.{statement}
+use Rattle.parts.proofs.directive_at.Tie as tie
+use Rattle.parts.proofs.directive_at.Reads as reads
+use Rattle.parts.proofs.directive_at.Lts as lts
+use Rattle.parts.proofs.percent_line.Reads as percent-line-reads
+use Rattle.parts.proofs.text_of.Reads as text-of-reads
+
+-- src/lib.rt:116:9
+text-of-requires : tie.Need-text-of-requires
+text-of-requires c κs = search needs
+
+-- src/lib.rt:117:5
+percent-line-requires : tie.Need-percent-line-requires
+percent-line-requires c κs = search needs
+
+-- src/lib.rt:112:1
+same-length : tie.Need-same-length
+same-length c = search needs
+
+-- src/lib.rt:112:1
+returns : tie.Need-returns
+returns c = rw (← (c .before .before .before .before .text-of .ensures)) ((c .before .before .percent-line .ensures))
+
+pub directive-at-spec : {M : Type 1} → statement M
+directive-at-spec = tie.close (tie.spec text-of-requires percent-line-requires same-length returns)

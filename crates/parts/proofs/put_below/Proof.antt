@@ -1,0 +1,39 @@
+use Rattle.parts.specs.Lines.{belowOpen}
+use Rattle.parts.specs.Runs.{repeated}
+use Rattle.definition.specs.Pen.{space, indent}
+use Rattle.node.specs.Total.{keptOf}
+use Rattle.parts.specs.Draws.{both, of-puts}
+use borrow.Author.Needs.{needs}
+use Rattle.parts.proofs.put_below.Statement.{statement}
+use Rattle.parts.proofs.put_below.Tie as tie
+use Rattle.parts.proofs.put_below.Reads as reads
+use Rattle.parts.proofs.put_below.Lts as lts
+use Rattle.parts.proofs.put_break.Reads as put-break-reads
+use Rattle.parts.proofs.put_repeated.Reads as put-repeated-reads
+use Rattle.pen.proofs.Writer.spaces.Reads as spaces-reads
+
+-- src/lib.rt:427:9
+put-break-requires : tie.Need-put-break-requires
+put-break-requires c κs = search needs
+
+-- src/lib.rt:428:9
+put-repeated-requires : tie.Need-put-repeated-requires
+put-repeated-requires c κs = search needs
+
+-- src/lib.rt:429:5
+spaces-requires : tie.Need-spaces-requires
+spaces-requires c κs = search needs
+
+-- src/lib.rt:415:1
+same-length : tie.Need-same-length
+same-length c = search needs
+
+-- src/lib.rt:415:1
+returns : tie.Need-returns
+unfolding belowOpen repeated indent keptOf
+returns c = both _ _ (c .before .before .before .before .before .before .before .before .before .before .put-break .ensures) (both _ _ (c .before .before .before .before .before .before .put-repeated .ensures) (of-puts space _ (c .before .before .spaces .ensures)))
+
+pub put-below-spec : {M : Type 1} → statement M
+put-below-spec =
+    tie.close
+    (tie.spec put-break-requires put-repeated-requires spaces-requires same-length returns)

@@ -1,0 +1,31 @@
+use Rattle.parts.specs.Lines.{dashOpen}
+use Rattle.node.specs.Total.{keptOf}
+use Rattle.parts.specs.Draws.{both}
+use borrow.Author.Needs.{needs}
+use Rattle.parts.proofs.put_dash_block.Statement.{statement}
+use Rattle.parts.proofs.put_dash_block.Tie as tie
+use Rattle.parts.proofs.put_dash_block.Reads as reads
+use Rattle.parts.proofs.put_dash_block.Lts as lts
+use Rattle.parts.proofs.put_below_dash.Reads as put-below-dash-reads
+use Rattle.parts.proofs.put_break.Reads as put-break-reads
+
+-- src/lib.rt:462:9
+put-break-requires : tie.Need-put-break-requires
+put-break-requires c κs = search needs
+
+-- src/lib.rt:463:5
+put-below-dash-requires : tie.Need-put-below-dash-requires
+put-below-dash-requires c κs = search needs
+
+-- src/lib.rt:450:1
+same-length : tie.Need-same-length
+same-length c = search needs
+
+-- src/lib.rt:450:1
+returns : tie.Need-returns
+unfolding dashOpen keptOf
+returns c = both _ _ (c .before .before .before .before .before .before .put-break .ensures) (c .before .before .put-below-dash .ensures)
+
+pub put-dash-block-spec : {M : Type 1} → statement M
+put-dash-block-spec =
+    tie.close (tie.spec put-break-requires put-below-dash-requires same-length returns)

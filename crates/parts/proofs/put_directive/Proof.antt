@@ -1,0 +1,54 @@
+use Rattle.parts.proofs.Laws.{no-directive, some-directive}
+use borrow.Author.Needs.{needs}
+use Rattle.parts.proofs.put_directive.Statement.{statement}
+use Rattle.parts.proofs.put_directive.Tie as tie
+use Rattle.parts.proofs.put_directive.Reads as reads
+use Rattle.parts.proofs.put_directive.Lts as lts
+use Rattle.deck.proofs.words_of.Reads as words-of-reads
+use Rattle.pen.proofs.Writer.byte.Reads as byte-reads
+use Rattle.pen.proofs.Writer.text.Reads as text-reads
+
+-- src/lib.rt:341:9
+returns : tie.Need-returns
+returns c = no-directive _ _ _ (c .if1 .taken)
+
+-- src/lib.rt:344:26
+words-of-requires : tie.Need-words-of-requires
+words-of-requires c κs = search needs
+
+-- src/lib.rt:344:9
+text-requires : tie.Need-text-requires
+text-requires c κs = search needs
+
+-- src/lib.rt:345:9
+byte-requires : tie.Need-byte-requires
+byte-requires c κs = search needs
+
+-- src/lib.rt:346:18
+words-of-requires-2 : tie.Need-words-of-requires-2
+words-of-requires-2 c κs = search needs
+
+-- src/lib.rt:346:5
+text-requires-2 : tie.Need-text-requires-2
+text-requires-2 c κs = search needs
+
+-- src/lib.rt:336:1
+same-length : tie.Need-same-length
+same-length c = search needs
+
+-- src/lib.rt:336:1
+returns-2 : tie.Need-returns-2
+returns-2 c = some-directive _ _ _ _ _ _ _ _ (c .before .before .before .before .before .before .before .before .before .before .before .before .before .before .before .if1 .left) (c .before .before .before .before .before .before .before .before .before .before .before .before .words-of .ensures) (c .before .before .before .words-of2 .ensures) (c .before .before .before .before .before .before .before .before .before .before .before .text .ensures) (c .before .before .before .before .before .before .before .byte .ensures) (c .before .before .text2 .ensures)
+
+pub put-directive-spec : {M : Type 1} → statement M
+put-directive-spec =
+    tie.close
+    (tie.spec
+    returns
+    words-of-requires
+    text-requires
+    byte-requires
+    words-of-requires-2
+    text-requires-2
+    same-length
+    returns-2)

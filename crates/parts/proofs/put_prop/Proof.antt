@@ -1,0 +1,48 @@
+use Rattle.parts.proofs.Laws.{no-prop, some-prop}
+use borrow.Author.Needs.{needs}
+use Rattle.parts.proofs.put_prop.Statement.{statement}
+use Rattle.parts.proofs.put_prop.Tie as tie
+use Rattle.parts.proofs.put_prop.Reads as reads
+use Rattle.parts.proofs.put_prop.Lts as lts
+use Rattle.deck.proofs.words_of.Reads as words-of-reads
+use Rattle.pen.proofs.Writer.text.Reads as text-reads
+
+-- src/lib.rt:199:9
+returns : tie.Need-returns
+returns c = no-prop _ _ _ _ _ (c .if1 .taken)
+
+-- src/lib.rt:201:9
+text-requires : tie.Need-text-requires
+text-requires c κs = search needs
+
+-- src/lib.rt:202:27
+words-of-requires : tie.Need-words-of-requires
+words-of-requires c κs = search needs
+
+-- src/lib.rt:202:9
+text-requires-2 : tie.Need-text-requires-2
+text-requires-2 c κs = search needs
+
+-- src/lib.rt:203:5
+text-requires-3 : tie.Need-text-requires-3
+text-requires-3 c κs = search needs
+
+-- src/lib.rt:194:1
+same-length : tie.Need-same-length
+same-length c = search needs
+
+-- src/lib.rt:194:1
+returns-2 : tie.Need-returns-2
+returns-2 c = some-prop _ _ _ _ _ _ _ _ _ (c .before .before .before .before .before .before .before .before .before .before .before .before .before .if1 .left) (c .before .before .before .before .before .before .before .words-of .ensures) (c .before .before .before .before .before .before .before .before .before .before .before .text .ensures) (c .before .before .before .before .before .before .text2 .ensures) (c .before .before .text3 .ensures)
+
+pub put-prop-spec : {M : Type 1} → statement M
+put-prop-spec =
+    tie.close
+    (tie.spec
+    returns
+    text-requires
+    words-of-requires
+    text-requires-2
+    text-requires-3
+    same-length
+    returns-2)

@@ -1,0 +1,68 @@
+use mathlib.Core.Path.{sym, _∙_}
+use Rattle.definition.specs.Walk.{propsLine}
+use Rattle.definition.specs.Pen.{space, newline}
+use Rattle.node.specs.Total.{broughtOf}
+use Rattle.parts.specs.Lines.{tagFirst}
+use Rattle.parts.specs.Runs.{has-props-is}
+use Rattle.parts.specs.Draws.{draws-yes, draws-no, stays, both, of-byte}
+use borrow.Author.Needs.{needs}
+use Rattle.parts.proofs.put_props_line.Statement.{statement}
+use Rattle.parts.proofs.put_props_line.Tie as tie
+use Rattle.parts.proofs.put_props_line.Reads as reads
+use Rattle.parts.proofs.put_props_line.Lts as lts
+use Rattle.parts.proofs.has_props.Reads as has-props-reads
+use Rattle.parts.proofs.put_prop.Reads as put-prop-reads
+use Rattle.parts.proofs.put_tag_first.Reads as put-tag-first-reads
+use Rattle.pen.proofs.Writer.byte.Reads as byte-reads
+
+-- src/lib.rt:310:8
+has-props-requires : tie.Need-has-props-requires
+has-props-requires c κs = search needs
+
+-- src/lib.rt:311:13
+put-tag-first-requires : tie.Need-put-tag-first-requires
+put-tag-first-requires c κs = search needs
+
+-- src/lib.rt:312:42
+slice-aggregate-put-prop : tie.Need-slice-aggregate-put-prop
+slice-aggregate-put-prop c = search needs
+
+-- src/lib.rt:312:61
+slice-aggregate-put-prop-2 : tie.Need-slice-aggregate-put-prop-2
+slice-aggregate-put-prop-2 c = search needs
+
+-- src/lib.rt:312:13
+put-prop-requires : tie.Need-put-prop-requires
+put-prop-requires c κs = search needs
+
+-- src/lib.rt:313:9
+byte-requires : tie.Need-byte-requires
+byte-requires c κs = search needs
+
+-- src/lib.rt:313:9
+same-length : tie.Need-same-length
+same-length c = search needs
+
+-- src/lib.rt:313:9
+returns : tie.Need-returns
+unfolding propsLine newline tagFirst broughtOf
+returns c = draws-yes _ _ _ (has-props-is (c .before .before .before .before .before .before .before .before .before .before .before .before .before .before .before .before .before .before .args .pool .now) (c .before .before .before .before .before .before .before .before .before .before .before .before .before .before .before .before .before .before .args .lead) ∙ sym (c .before .before .before .before .before .before .before .before .before .before .before .before .before .before .before .has-props .ensures) ∙ c .before .before .before .before .before .before .before .before .before .before .before .before .before .before .if1 .taken) (both _ _ (c .before .before .before .before .before .before .before .before .before .before .before .before .put-tag-first .ensures) (both _ _ (c .before .before .before .before .before .before .put-prop .ensures) (of-byte space _ (c .before .before .byte .ensures))))
+
+-- src/lib.rt:306:1
+returns-2 : tie.Need-returns-2
+unfolding propsLine newline tagFirst broughtOf
+returns-2 c = draws-no _ _ _ (has-props-is (c .before .before .before .before .args .pool .now) (c .before .before .before .before .args .lead) ∙ sym (c .before .has-props .ensures) ∙ c .if1 .left) stays
+
+pub put-props-line-spec : {M : Type 1} → statement M
+put-props-line-spec =
+    tie.close
+    (tie.spec
+    has-props-requires
+    put-tag-first-requires
+    slice-aggregate-put-prop
+    slice-aggregate-put-prop-2
+    put-prop-requires
+    byte-requires
+    same-length
+    returns
+    returns-2)

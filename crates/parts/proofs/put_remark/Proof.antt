@@ -1,0 +1,33 @@
+use Rattle.parts.proofs.Laws.{no-remark, some-remark}
+use borrow.Author.Tests.{eq-eqb, ne-eqb}
+use borrow.Author.Needs.{needs}
+use Rattle.parts.proofs.put_remark.Statement.{statement}
+use Rattle.parts.proofs.put_remark.Tie as tie
+use Rattle.parts.proofs.put_remark.Reads as reads
+use Rattle.parts.proofs.put_remark.Lts as lts
+use Rattle.deck.proofs.words_of.Reads as words-of-reads
+use Rattle.pen.proofs.Writer.comment.Reads as comment-reads
+
+-- src/lib.rt:230:9
+returns : tie.Need-returns
+returns c = no-remark _ _ _ _ (c .if1 .taken)
+
+-- src/lib.rt:237:9
+words-of-requires : tie.Need-words-of-requires
+words-of-requires c κs = search needs
+
+-- src/lib.rt:233:5
+comment-requires : tie.Need-comment-requires
+comment-requires c κs = search needs
+
+-- src/lib.rt:225:1
+same-length : tie.Need-same-length
+same-length c = search needs
+
+-- src/lib.rt:225:1
+returns-2 : tie.Need-returns-2
+returns-2 c = some-remark _ _ _ _ _ _ (c .before .before .before .before .before .before .if1 .left) (c .before .before .before .words-of .ensures) (c .before .before .comment .ensures)
+
+pub put-remark-spec : {M : Type 1} → statement M
+put-remark-spec =
+    tie.close (tie.spec returns words-of-requires comment-requires same-length returns-2)

@@ -1,0 +1,66 @@
+use Rattle.parts.specs.Runs.{runOf}
+use borrow.Author.Needs.{needs}
+use Rattle.parts.proofs.run_of.Statement.{statement}
+use Rattle.parts.proofs.run_of.Tie as tie
+use Rattle.parts.proofs.run_of.Reads as reads
+use Rattle.parts.proofs.run_of.Lts as lts
+
+-- src/lib.rt:183:27
+enum-told : tie.Need-enum-told
+enum-told c = search needs
+
+-- src/lib.rt:184:26
+enum-told-2 : tie.Need-enum-told-2
+enum-told-2 c = search needs
+
+-- src/lib.rt:185:27
+enum-told-3 : tie.Need-enum-told-3
+enum-told-3 c = search needs
+
+-- src/lib.rt:186:27
+enum-told-4 : tie.Need-enum-told-4
+enum-told-4 c = search needs
+
+-- src/lib.rt:187:32
+enum-told-5 : tie.Need-enum-told-5
+enum-told-5 c = search needs
+
+-- src/lib.rt:179:1
+returns : tie.Need-returns
+unfolding runOf
+returns c = cc
+
+-- src/lib.rt:179:1
+returns-2 : tie.Need-returns-2
+unfolding runOf
+returns-2 c = cc
+
+-- src/lib.rt:179:1
+returns-3 : tie.Need-returns-3
+unfolding runOf
+returns-3 c = cc
+
+-- src/lib.rt:179:1
+returns-4 : tie.Need-returns-4
+unfolding runOf
+returns-4 c = cc
+
+-- src/lib.rt:179:1
+returns-5 : tie.Need-returns-5
+unfolding runOf
+returns-5 c = cc
+
+pub run-of-spec : {M : Type 1} → statement M
+run-of-spec =
+    tie.close
+    (tie.spec
+    enum-told
+    enum-told-2
+    enum-told-3
+    enum-told-4
+    enum-told-5
+    returns
+    returns-2
+    returns-3
+    returns-4
+    returns-5)

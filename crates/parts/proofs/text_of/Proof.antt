@@ -1,0 +1,28 @@
+use Rattle.node.specs.Total.{textOf}
+use borrow.Author.Needs.{needs}
+use Rattle.parts.proofs.text_of.Statement.{statement}
+use Rattle.parts.proofs.text_of.Tie as tie
+use Rattle.parts.proofs.text_of.Reads as reads
+use Rattle.parts.proofs.text_of.Lts as lts
+use Rattle.deck.proofs.text_only.Reads as text-only-reads
+use Rattle.deck.proofs.words_of.Reads as words-of-reads
+
+-- src/lib.rt:58:29
+add-t5 : tie.Need-add-t5
+add-t5 c = search needs
+
+-- src/lib.rt:59:26
+text-only-requires : tie.Need-text-only-requires
+text-only-requires c κs = search needs
+
+-- src/lib.rt:59:5
+words-of-requires : tie.Need-words-of-requires
+words-of-requires c κs = search needs
+
+-- src/lib.rt:54:1
+returns : tie.Need-returns
+unfolding textOf
+returns c = cc
+
+pub text-of-spec : {M : Type 1} → statement M
+text-of-spec = tie.close (tie.spec add-t5 text-only-requires words-of-requires returns)

@@ -1,0 +1,43 @@
+-- Stretches of the walk's lines that are written together.
+use Prim.Native.Nat.{ℕ}
+use mathlib.Core.List.{[], _∷_}
+use mathlib.Core.Option.{Option}
+use Rattle.definition.specs.Base.{if_then_else_, isSome}
+use Rattle.definition.specs.Ascii.{SP}
+use Rattle.definition.specs.Tree.{Source, Inline, Kept, Brought}
+use Rattle.definition.specs.Pen.{directive, Script, put, comment, endLine, _>>_, newline, indent}
+use Rattle.definition.specs.Walk.{blanks, heads, headsBelow, aboveDash, belowDash, prop, propsCompact, directiveOf}
+
+-- the tag of a line of properties: a space where an anchor follows
+unfoldable pub tagFirst : Brought → Script
+tagFirst b = prop [] (b .tag) (if isSome (b .anchor) then SP ∷ [] else [])
+
+-- an include's directive, to the end of the line
+unfoldable pub directed : ℕ → Option Source → Option Inline → Script
+directed p o m = put directive (directiveOf o) >> comment p m >> newline
+
+-- the properties and the inline comment of what stands below, to the end of the line
+unfoldable pub breaks : ℕ → Option Inline → Brought → Script
+breaks p m b = propsCompact b >> comment p m >> newline
+
+-- the inline comment, and the end of the line
+unfoldable pub closes : ℕ → Option Inline → Script
+closes p m = comment p m >> endLine
+
+-- what stands before an item's dash, and before a key
+unfoldable pub beforeItem : Kept → ℕ → Script
+beforeItem a i = blanks a >> aboveDash a i >> indent i
+
+unfoldable pub beforeKey : Kept → ℕ → Script
+beforeKey a i = blanks a >> heads a i >> indent i
+
+-- what stands below its introducer, up to its content
+unfoldable pub belowOpen : ℕ → Kept → Brought → ℕ → Script
+belowOpen p a b i = breaks p (a .inline) b >> headsBelow a i >> indent i
+
+-- a block collection after `:`, and below its dash, up to its members
+unfoldable pub colonOpen : ℕ → Kept → Brought → ℕ → Script
+colonOpen p a b i = breaks p (a .inline) b >> heads a i
+
+unfoldable pub dashOpen : ℕ → Kept → Brought → ℕ → Script
+dashOpen p a b i = breaks p (a .inline) b >> belowDash a i
