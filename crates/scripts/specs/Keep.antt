@@ -1,7 +1,7 @@
 -- What a script leaves of the pen as it was: flow depth, key mark, whether columns are kept, the room; the bounds on its counts; and that it
 -- does not look at flow depth and key mark at all.
 use mathlib.Core.Path.{_≡_, refl, sym, ap, subst, _∙_}
-use Prim.Native.Nat.{ℕ, _+_, _≤_, _<_, min}
+use Prim.Native.Nat.{ℕ, _+_, _-_, _≤_, _<_, min}
 use native.Mathlib.Omega.{arith}
 use mathlib.Core.Bool.{Bool, true, false}
 use mathlib.Core.List.{[], _∷_}
@@ -18,7 +18,7 @@ use Rattle.definition.specs.Pen.{Script, put, endLine, comment, replay, leaf, c
 use Rattle.definition.specs.declared.Settings.{Settings}
 use Rattle.laws.specs.Leaf.{scalarBytes}
 use Rattle.pen.specs.declared.Writer.{Writer}
-use Rattle.pen.specs.Pen.{Pen, pen, columnAfter, put1, puts, lineEnded, withInline, withRaw, noted, noteOf, rawed, ink}
+use Rattle.pen.specs.Pen.{Pen, pen, columnAfter, put1, puts, lineEnded, withInline, withRaw, noted, noteOf, rawed, unput, ended, ink}
 use Rattle.pen.specs.Shown.{fresh}
 
 -- ---- what every step leaves true, every script does
@@ -338,3 +338,18 @@ length-of s a p q e = ap (λ (r : Pen). length (r .out)) e ∙ ink-length s a p
 
 pub fit-of : (s : Settings) (a : Script) (p q : Pen) → q ≡ ink s a p → Fit p → Fit q
 fit-of s a p q e h = subst Fit (sym e) (ink-fit s a p h)
+
+-- ---- the end of a file
+
+pub ended-length : (p : Pen) → length (ended p .out) ≡ length (p .out)
+unfolding ended unput
+ended-length p = go (eqb (p .w .raw) 0) (eqb (p .w .len) (p .w .raw)) (eqb (p .w .last) LF)
+  where
+    go : (a b c : Bool) → length ((if a then p else if b then (if c then unput p else p) else p) .out) ≡ length (p .out)
+    go true b c = refl
+    go false false c = refl
+    go false true true = length-set (p .out) (p .w .len - 1) (p .w .under)
+    go false true false = refl
+
+pub ended-length-of : (s : Settings) (a : Script) (p q : Pen) → q ≡ ended (ink s a p) → length (q .out) ≡ length (p .out)
+ended-length-of s a p q e = ap (λ (r : Pen). length (r .out)) e ∙ ended-length (ink s a p) ∙ ink-length s a p

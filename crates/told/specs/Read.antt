@@ -14,6 +14,7 @@ use Rattle.definition.specs.Utf8.{wellFormed}
 use Rattle.definition.specs.Records.{kindAt, recordAt}
 use Rattle.definition.specs.Tree.{Kept, Brought, Node, Nodes, Pairs}
 use Rattle.definition.specs.Document.{oneDocument, allDocuments}
+use Rattle.definition.specs.Change.{boundariesAll}
 use Rattle.definition.specs.Deck
 use Rattle.definition.specs.declared.Settings.{Settings}
 use Rattle.definition.specs.declared.Cursor.{Cursor}
@@ -22,6 +23,7 @@ use Rattle.definition.specs.declared.Record.{Record}
 use Rattle.definition.specs.declared.Record.the-variants as is
 use Rattle.pen.specs.Shown.{Sound}
 use Rattle.scripts.specs.Sound.{Formed, FormedNodes, FormedPairs, FormedAll, sound-one, sound-all}
+use Rattle.scripts.specs.Files.{FormedFiles, formed-files-all}
 
 -- ---- a value that was read is as P says
 
@@ -132,3 +134,7 @@ module _ (deck pool : Bytes) where
   pub sound-read-one : (s : Settings) (n : Node) (c : Cursor) → Deck.readDeck deck pool ≡ Deck.got (n ∷ []) c → Sound (oneDocument s false n)
   unfolding FormedAll
   sound-read-one s n c q = sound-one s false n (formed (n ∷ []) c q .0)
+
+  -- and so are the files of its includes
+  pub files-read : (ns : List Node) (c : Cursor) → Deck.readDeck deck pool ≡ Deck.got ns c → FormedFiles (boundariesAll ns)
+  files-read ns c q = formed-files-all ns (formed ns c q)
