@@ -71,11 +71,14 @@ four false false c d u v h = two c d u v (λ z. h (refl, refl, z .0, z .1))
 module _ (s : Settings) (x : Lent) (r : Outcome) where
   -- what `limited` tests second
   abbrev second : Outcome
-  second = if ltb 65536 (length (x .deck)) || ltb 65536 (length (x .pool)) || ltb 1048576 (length (x .output)) || ltb 4096 (length (x .list)) then refused 2 0 x else r
+  second =
+      if ltb 65536 (length (x .deck)) || ltb 65536 (length (x .pool)) || ltb 1048576 (length (x .output)) || ltb 4096 (length (x .list)) then refused 2 0 x
+      else r
 
   limited-1 : (Settled s → ⊥) → limited s x r ≡ refused 1 0 x
   unfolding limited
-  limited-1 h = two (ltb 16 (s .indent)) (ltb 65535 (s .width)) _ second (λ z. h (record { indent = ltb-false _ _ (z .0); width = ltb-false _ _ (z .1) }))
+  limited-1 h =
+      two (ltb 16 (s .indent)) (ltb 65535 (s .width)) _ second (λ z. h (record { indent = ltb-false _ _ (z .0); width = ltb-false _ _ (z .1) }))
 
   limited-on : Settled s → limited s x r ≡ second
   unfolding limited
@@ -99,8 +102,8 @@ unfolding overTrees
 refused-2 {s} j x z h = j .is x ∙ limited-2 s x _ z h
 
 -- refusals 3 to 7 are the reader's
-pub refused-read : {s : Settings} {call : Lent → Outcome} → Judged s call → (x : Lent) (n p : ℕ) → Settled s → Small x → readDeck (x .deck) (x .pool) ≡ fault n p
-    → call x ≡ refused n p x
+pub refused-read : {s : Settings} {call : Lent → Outcome} → Judged s call → (x : Lent) (n p : ℕ) → Settled s → Small x
+    → readDeck (x .deck) (x .pool) ≡ fault n p → call x ≡ refused n p x
 unfolding overTrees onTrees
 refused-read {s} j x n p z l e = j .is x ∙ limited-none s x _ z l ∙ rw e
 
@@ -116,8 +119,8 @@ not-one f x [] h = refl
 not-one f x (n ∷ []) h = absurd (h refl)
 not-one f x (n ∷ m ∷ ns) h = refl
 
-pub one-refused-8 : (s : Settings) (x : Lent) (ns : List Node) (c : Cursor) → Settled s → Small x → readDeck (x .deck) (x .pool) ≡ got ns c → (length ns ≡ 1 → ⊥)
-    → writeOne s x ≡ refused 8 0 x
+pub one-refused-8 : (s : Settings) (x : Lent) (ns : List Node) (c : Cursor) → Settled s → Small x → readDeck (x .deck) (x .pool) ≡ got ns c
+    → (length ns ≡ 1 → ⊥) → writeOne s x ≡ refused 8 0 x
 unfolding one-judged
 one-refused-8 s x ns c z l e h = read-trees (one-judged s) x ns c z l e ∙ not-one _ x ns h
 
@@ -151,24 +154,28 @@ leaves-told deck pool orig t q h = go (ltb (length orig) (length t)) refl
         → (if b then noRoom 10 (lent deck pool orig) else answered t [] false (lent deck pool orig)) ≡ told q (lent deck pool orig)
     go true e = sym (told-over q (lent deck pool orig) (h .over (ltb-true _ _ e)))
     go false e =
-        let f = h .fits (ltb-false _ _ e) in
         let l : length t ≤ length orig = ltb-false _ _ e in
+        let f = h .fits l in
         sym (told-fits q (lent deck pool orig) (rw (f .0) l) ∙ rw (f .0, f .1))
 
-script-told : (s : Settings) (a : Script) → Sound a → (deck pool orig : Bytes) (k f y : ℕ) → (k ≡ 0 → s .width ≡ 0) → (q : Pen) → q ≡ ended (ink s a (pen (fresh k f y) orig))
-    → handed (bytesOf s a) [] (lent deck pool orig) ≡ told q (lent deck pool orig)
-script-told s a z deck pool orig k f y g q e = leaves-told deck pool orig (bytesOf s a) q (subst (Leaves orig (bytesOf s a)) (sym e) (leaves s a z orig k f y g))
+-- from a new writer over the slice to the end; columns are kept where lines are folded
+module _ (s : Settings) (deck pool orig : Bytes) (k f y : ℕ) (g : k ≡ 0 → s .width ≡ 0) where
+  script-told : (a : Script) → Sound a → (q : Pen) → q ≡ ended (ink s a (pen (fresh k f y) orig))
+      → handed (bytesOf s a) [] (lent deck pool orig) ≡ told q (lent deck pool orig)
+  script-told a z q e = leaves-told deck pool orig (bytesOf s a) q (subst (Leaves orig (bytesOf s a)) (sym e) (leaves s a z orig k f y g))
 
-module _ (s : Settings) (deck pool orig : Bytes) (k f y : ℕ) (g : k ≡ 0 → s .width ≡ 0) (z : Settled s) (l : Small (lent deck pool orig)) where
-  pub all-told : (ns : List Node) (c : Cursor) → readDeck deck pool ≡ got ns c → (q : Pen) → q ≡ ended (ink s (allDocuments s ns) (pen (fresh k f y) orig))
-      → writeAll s (lent deck pool orig) ≡ told q (lent deck pool orig)
-  unfolding all-judged emitAll
-  all-told ns c e q h = read-trees (all-judged s) (lent deck pool orig) ns c z l e ∙ script-told s (allDocuments s ns) (sound-read-all deck pool s ns c e) deck pool orig k f y g q h
+  module _ (z : Settled s) (l : Small (lent deck pool orig)) where
+    pub all-told : (ns : List Node) (c : Cursor) → readDeck deck pool ≡ got ns c → (q : Pen)
+        → q ≡ ended (ink s (allDocuments s ns) (pen (fresh k f y) orig)) → writeAll s (lent deck pool orig) ≡ told q (lent deck pool orig)
+    unfolding all-judged emitAll
+    all-told ns c e q h =
+        read-trees (all-judged s) (lent deck pool orig) ns c z l e ∙ script-told (allDocuments s ns) (sound-read-all deck pool s ns c e) q h
 
-  pub one-told : (n : Node) (c : Cursor) → readDeck deck pool ≡ got (n ∷ []) c → (q : Pen) → q ≡ ended (ink s (oneDocument s false n) (pen (fresh k f y) orig))
-      → writeOne s (lent deck pool orig) ≡ told q (lent deck pool orig)
-  unfolding one-judged onOne emitOne
-  one-told n c e q h = read-trees (one-judged s) (lent deck pool orig) (n ∷ []) c z l e ∙ script-told s (oneDocument s false n) (sound-read-one deck pool s n c e) deck pool orig k f y g q h
+    pub one-told : (n : Node) (c : Cursor) → readDeck deck pool ≡ got (n ∷ []) c → (q : Pen)
+        → q ≡ ended (ink s (oneDocument s false n) (pen (fresh k f y) orig)) → writeOne s (lent deck pool orig) ≡ told q (lent deck pool orig)
+    unfolding one-judged onOne emitOne
+    one-told n c e q h =
+        read-trees (one-judged s) (lent deck pool orig) (n ∷ []) c z l e ∙ script-told (oneDocument s false n) (sound-read-one deck pool s n c e) q h
 
 -- ---- the other calls
 
@@ -180,12 +187,13 @@ pub plain-settled : Settled plainSettings
 unfolding plainSettings
 plain-settled = null-settled Null
 
-pub modified-refused-8 : (x : Lent) (ns : List Node) (c : Cursor) → Small x → readDeck (x .deck) (x .pool) ≡ got ns c → (length ns ≡ 1 → ⊥)
-    → tellModified x ≡ refused 8 0 x
+pub modified-refused-8 : (x : Lent) (ns : List Node) (c : Cursor) → Small x → readDeck (x .deck) (x .pool) ≡ got ns c
+    → (length ns ≡ 1 → ⊥) → tellModified x ≡ refused 8 0 x
 unfolding modified-judged
 modified-refused-8 x ns c l e h = read-trees modified-judged x ns c plain-settled l e ∙ not-one _ x ns h
 
-pub modified-told : (x : Lent) (n : Node) (c : Cursor) → Small x → readDeck (x .deck) (x .pool) ≡ got (n ∷ []) c → tellModified x ≡ answered [] [] (localModified n) x
+pub modified-told : (x : Lent) (n : Node) (c : Cursor) → Small x → readDeck (x .deck) (x .pool) ≡ got (n ∷ []) c
+    → tellModified x ≡ answered [] [] (localModified n) x
 unfolding modified-judged onOne
 modified-told x n c l e = read-trees modified-judged x (n ∷ []) c plain-settled l e
 

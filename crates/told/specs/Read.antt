@@ -54,7 +54,8 @@ clean-text : (pool : Bytes) (t : Text) (ts : List Text) → Deck.textsFault pool
 unfolding Deck.textsFault
 clean-text pool t ts h = go (ltb (length pool) (t .from + t .len)) (wellFormed (Deck.words pool t)) refl h
   where
-    go : (b c : Bool) → wellFormed (Deck.words pool t) ≡ c → (if b then 4 else if c then Deck.textsFault pool ts else 5) ≡ 0 → wellFormed (Deck.words pool t) ≡ true
+    go : (b c : Bool) → wellFormed (Deck.words pool t) ≡ c → (if b then 4 else if c then Deck.textsFault pool ts else 5) ≡ 0
+        → wellFormed (Deck.words pool t) ≡ true
     go true c e h = absurd (omega arith)
     go false true e h = e
     go false false e h = absurd (omega arith)
@@ -106,7 +107,8 @@ module _ (deck pool : Bytes) where
   unfolding Deck.readWhole Deck.ownOrOn
   whole-clean zero last a b c = gives-fault
   whole-clean (suc n) last a b c =
-      gives-bind (record-clean last c) (λ r d h. gives-if (Deck.isNode r) (λ _. gives-got h) (whole-clean n (kindAt deck c) (Deck.keep pool r a) (Deck.bring pool r b) d))
+      gives-bind (record-clean last c)
+      (λ r d h. gives-if (Deck.isNode r) (λ _. gives-got h) (whole-clean n (kindAt deck c) (Deck.keep pool r a) (Deck.bring pool r b) d))
 
   read-formed : (n : ℕ) → Forms (Deck.readNode deck pool n)
   unfolding Deck.readNode
