@@ -1,0 +1,3 @@
+pub mod Keep
+pub mod Sound
+pub mod Files

@@ -1,0 +1,1 @@
+// Laws of scripts and of the pen under a script, in specs/.
