@@ -63,7 +63,7 @@ module _ (deck : Bytes) where
       go false h = let z : 0 ≡ k = sym (List·getD-eq-default deck 0 (ltb-false _ _ h)) ∙ e in absurd (omega arith)
 
   -- past a collection's record
-  collection : (c : Cursor) (k : ℕ) → 0 < k → kindAt deck c ≡ k → sizeOf k ≡ 4 → c .at < nextOf deck c .at
+  pub collection : (c : Cursor) (k : ℕ) → 0 < k → kindAt deck c ≡ k → sizeOf k ≡ 4 → c .at < nextOf deck c .at
   unfolding nextOf past
   collection c k p e s =
       let i : c .at < length deck = inside c k p e in

@@ -1,0 +1,163 @@
+-- What is known of the node at a cursor: it lies ahead, its children lie further on, its runs are short.
+use mathlib.Core.Path.{_≡_, refl, sym, ap, _∙_}
+use Prim.Native.Nat.{ℕ, zero, suc, _+_, _<_, _≤_}
+use native.Mathlib.Omega.{arith}
+use mathlib.Core.Bool.{Bool, true, false, true≢false}
+use lib.ListN.{length}
+use lib.Dec.{eqb}
+use borrow.Author.Tests.{ne-eqb, eqb-true, eqb-false}
+use Rattle.definition.specs.Base.{Bytes, if_then_else_}
+use Rattle.definition.specs.Records.{kindAt, recordOf, recordAt, sizeOf, past}
+use Rattle.definition.specs.Deck.{isNode, noLines}
+use Rattle.definition.specs.declared.Cursor.{Cursor}
+use Rattle.definition.specs.declared.Record.{Record}
+use Rattle.definition.specs.declared.Record.the-variants as is
+use Rattle.deck.specs.Next.{nextOf}
+use Rattle.node.specs.declared.Lead.{Lead}
+use Rattle.node.specs.declared.Run.{Run}
+use Rattle.node.specs.Head.{noLead, onto, addTo, headed, headFrom, headAt}
+use Rattle.node.specs.Fuel.{head-at-onward, next-within, collection}
+use Rattle.parts.specs.Runs.{Short}
+use Rattle.spot.specs.declared.Body.{Body}
+use Rattle.spot.specs.declared.Body.the-variants as body
+use Rattle.spot.specs.declared.Spot.{Spot}
+use Rattle.spot.specs.Spot.{bodyOf, spotOf, spotAt}
+
+-- ---- runs
+
+-- at most n records, the first at m or before
+record Few (n m : ℕ) (r : Run) : Type 0 where
+  first : r .first .at ≤ m
+  count : r .count ≤ n
+
+few-more : (n m : ℕ) (r : Run) → Few n m r → Few (suc n) m r
+few-more n m r f = let c = f .count in record { first = f .first; count = omega arith }
+
+few-onto : (n m : ℕ) (r : Run) (c : Cursor) → c .at ≤ m → Few n m r → Few (suc n) m (onto r c)
+unfolding onto
+few-onto n m r c k f = let z = f .count in record { first = go (eqb (r .count) 0); count = omega arith }
+  where
+    go : (b : Bool) → (if b then c else r .first) .at ≤ m
+    go true = k
+    go false = f .first
+
+record Lodged (n m : ℕ) (l : Lead) : Type 0 where
+  heads : Few n m (l .heads)
+  foots : Few n m (l .foots)
+  directives : Few n m (l .directives)
+
+lodged-more : (n m : ℕ) (l : Lead) → Lodged n m l → Lodged (suc n) m l
+lodged-more n m l f = record { heads = few-more n m _ (f .heads); foots = few-more n m _ (f .foots); directives = few-more n m _ (f .directives) }
+
+lodged-add : (n m : ℕ) (r : Record) (c : Cursor) (l : Lead) → c .at ≤ m → Lodged n m l → Lodged (suc n) m (addTo r c l)
+unfolding addTo
+lodged-add n m (is.Tag t) c l k f = let g = lodged-more n m l f in record { heads = g .heads; foots = g .foots; directives = g .directives }
+lodged-add n m (is.Anchor t) c l k f = let g = lodged-more n m l f in record { heads = g .heads; foots = g .foots; directives = g .directives }
+lodged-add n m (is.Source i) c l k f = let g = lodged-more n m l f in record { heads = g .heads; foots = g .foots; directives = g .directives }
+lodged-add n m (is.Head h) c l k f = let g = lodged-more n m l f in record { heads = few-onto n m _ c k (f .heads); foots = g .foots; directives = g .directives }
+lodged-add n m (is.Inline t) c l k f = let g = lodged-more n m l f in record { heads = g .heads; foots = g .foots; directives = g .directives }
+lodged-add n m (is.Foot t) c l k f = let g = lodged-more n m l f in record { heads = g .heads; foots = few-onto n m _ c k (f .foots); directives = g .directives }
+lodged-add n m (is.Raw t) c l k f = let g = lodged-more n m l f in record { heads = g .heads; foots = g .foots; directives = g .directives }
+lodged-add n m (is.Directive t) c l k f = let g = lodged-more n m l f in record { heads = g .heads; foots = g .foots; directives = few-onto n m _ c k (f .directives) }
+lodged-add n m (is.Layout s) c l k f = let g = lodged-more n m l f in record { heads = g .heads; foots = g .foots; directives = g .directives }
+lodged-add n m is.Null c l k f = lodged-more n m l f
+lodged-add n m (is.Scalar w) c l k f = lodged-more n m l f
+lodged-add n m (is.Alias t) c l k f = lodged-more n m l f
+lodged-add n m (is.Sequence g) c l k f = lodged-more n m l f
+lodged-add n m (is.Mapping g) c l k f = lodged-more n m l f
+
+module _ (deck : Bytes) where
+  record Ends (l : Lead) : Type 0 where
+    most : ℕ
+    bound : most ≤ length deck
+    lodged : Lodged most (length deck) l
+
+  lodged-from : (k n : ℕ) (l : Lead) (c : Cursor) → c .at ≤ length deck → n + k ≤ length deck → Lodged n (length deck) l → Ends (headFrom deck k l c .lead)
+  unfolding headFrom headed
+  lodged-from zero n l c h b f = record { most = n; bound = omega arith; lodged = f }
+  lodged-from (suc k) n l c h b f =
+      go (isNode (recordAt deck c)) (lodged-from k (suc n) (addTo (recordAt deck c) c l) (nextOf deck c) (next-within deck c) (omega arith) (lodged-add n (length deck) (recordAt deck c) c l h f))
+    where
+      go : (t : Bool) → Ends (headFrom deck k (addTo (recordAt deck c) c l) (nextOf deck c) .lead) → Ends ((if t then headed deck l c else headFrom deck k (addTo (recordAt deck c) c l) (nextOf deck c)) .lead)
+      go true e = record { most = n; bound = omega arith; lodged = f }
+      go false e = e
+
+  none-lodged : Lodged 0 (length deck) noLead
+  none-lodged = let f : Few 0 (length deck) (noLead .heads) = record { first = omega arith; count = omega arith } in record { heads = f; foots = f; directives = f }
+
+  head-short : (c : Cursor) → c .at ≤ length deck → length deck ≤ 65536 → Short (headAt deck c .lead)
+  unfolding headAt
+  head-short c h b =
+      let e = lodged-from (length deck) 0 noLead c h (omega arith) none-lodged in
+      let m = e .bound in
+      let x = e .lodged .heads in
+      let y = e .lodged .foots in
+      let z = e .lodged .directives in
+      record {
+        heads-first = omega (arith, x .first, b);
+        heads-count = omega (arith, x .count, m, b);
+        foots-first = omega (arith, y .first, b);
+        foots-count = omega (arith, y .count, m, b);
+        directives-first = omega (arith, z .first, b);
+        directives-count = omega (arith, z .count, m, b);
+      }
+
+-- ---- collections
+
+unfoldable pub isGroup : Body → Bool
+isGroup body.Null = false
+isGroup (body.Scalar w) = false
+isGroup (body.Alias t) = false
+isGroup (body.Sequence g) = true
+isGroup (body.Mapping g) = true
+
+pub record Good (deck : Bytes) (x : Spot) : Type 0 where
+  pub ahead : x .place ≤ x .next .at
+  pub within : x .next .at ≤ length deck
+  pub deeper : isGroup (x .body) ≡ true → x .place < x .next .at
+  pub short : Short (x .lead)
+
+module _ (deck : Bytes) where
+  -- only kinds 23 and 24 are collections
+  pass : (b : Bool) (x y : Record) → isGroup (bodyOf x) ≡ false → isGroup (bodyOf y) ≡ false → isGroup (bodyOf (if b then x else y)) ≡ false
+  pass true x y p q = p
+  pass false x y p q = q
+
+  no-group : (k at : ℕ) → (k ≡ 0x23 → ⊥) → (k ≡ 0x24 → ⊥) → isGroup (bodyOf (recordOf k deck at)) ≡ false
+  unfolding recordOf bodyOf isGroup
+  no-group k at p q =
+      rw (ne-eqb k 0x23 p, ne-eqb k 0x24 q)
+      (pass (eqb k 0x01) _ _ refl
+      (pass (eqb k 0x02) _ _ refl
+      (pass (eqb k 0x03) _ _ refl
+      (pass (eqb k 0x04) _ _ refl
+      (pass (eqb k 0x05) _ _ refl
+      (pass (eqb k 0x06) _ _ refl
+      (pass (eqb k 0x07) _ _ refl
+      (pass (eqb k 0x08) _ _ refl
+      (pass (eqb k 0x09) _ _ refl
+      (pass (eqb k 0x21) _ _ refl
+      (pass (eqb k 0x22) _ _ refl refl)))))))))))
+
+  group-onward : (c : Cursor) → isGroup (bodyOf (recordAt deck c)) ≡ true → c .at < nextOf deck c .at
+  unfolding recordAt sizeOf
+  group-onward c g = go (eqb (kindAt deck c) 0x23) (eqb (kindAt deck c) 0x24) refl refl
+    where
+      go : (x y : Bool) → eqb (kindAt deck c) 0x23 ≡ x → eqb (kindAt deck c) 0x24 ≡ y → c .at < nextOf deck c .at
+      go true y e f = collection deck c 0x23 (omega arith) (eqb-true _ _ e) refl
+      go false true e f = collection deck c 0x24 (omega arith) (eqb-true _ _ f) refl
+      go false false e f = absurd (true≢false (sym g ∙ no-group (kindAt deck c) (c .at + 1) (eqb-false _ _ e) (eqb-false _ _ f)))
+
+  -- the node at a cursor is good, and stands there or further on
+  pub good-at : (c : Cursor) → c .at ≤ length deck → length deck ≤ 65536 → Good deck (spotAt deck c) × (c .at ≤ spotAt deck c .place)
+  unfolding spotAt spotOf
+  good-at c k b =
+      let o = head-at-onward deck c k in (
+        record {
+          ahead = o .beyond;
+          within = o .within;
+          deeper = λ g. rw (o .next) (group-onward (headAt deck c .place) (rw (o .own) at g));
+          short = head-short deck c k b;
+        },
+        o .ahead,
+      )
