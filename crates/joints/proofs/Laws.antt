@@ -1,0 +1,87 @@
+-- Laws of what stands between entries.
+-- Assumes nothing.
+use mathlib.Core.Path.{_≡_, refl, sym, ap, _∙_}
+use Prim.Native.Nat.{ℕ, _≤_}
+use native.Mathlib.Omega.{arith}
+use mathlib.Core.Bool.{Bool, true, false}
+use mathlib.Core.List.{[], _∷_}
+use lib.ListN.{length}
+use Rattle.definition.specs.Base.{Bytes, spaces}
+use Rattle.definition.specs.Ascii.{SP, ':'}
+use Rattle.definition.specs.Tree.{kept}
+use Rattle.definition.specs.Pen.{mark, space, sign, indent}
+use Rattle.definition.specs.Walk.{heads, colon}
+use Rattle.definition.specs.declared.Cursor.{Cursor}
+use Rattle.definition.specs.declared.Group.{Group}
+use Rattle.definition.specs.declared.Text.{Text}
+use Rattle.definition.specs.declared.Words.{Words}
+use Rattle.node.specs.Ends.{Ends}
+use Rattle.node.specs.Total.{keptOf}
+use Rattle.pen.specs.Pen.{Pen, put1, puts}
+use Rattle.parts.specs.Draws.{Draws, both, of-puts, of-byte}
+use Rattle.parts.specs.declared.Entries.the-variants.{Heads}
+use Rattle.parts.specs.Runs.{Short, repeated}
+use Rattle.spot.specs.declared.Body.{Body}
+use Rattle.spot.specs.declared.Body.the-variants as body
+use Rattle.spot.specs.declared.Spot.{Spot}
+use Rattle.spot.specs.Spot.{kindOf, spotAt, nodeIn, tree-value}
+use Rattle.spot.specs.Good.{Good, good-at}
+use Rattle.joints.specs.Entries.{nodeAt, lastOf, linedBefore}
+use Rattle.joints.specs.Told.{Colon, LastOf}
+
+pub last-value : (deck : Bytes) (pairs : Bool) (c r : Cursor) → pairs ≡ true → Ends deck c r → LastOf deck pairs c r
+unfolding lastOf
+last-value deck pairs c r e h = record { is = λ pool. rw e (h .tree pool); onward = h .onward; within = h .within }
+
+pub last-item : (deck : Bytes) (pairs : Bool) (c : Cursor) → pairs ≡ false → c .at ≤ length deck → LastOf deck pairs c c
+unfolding lastOf
+last-item deck pairs c e h = record { is = λ pool. rw e; onward = omega arith; within = h }
+
+-- ---- the colon
+
+one-colon : {P Q : Pen} → Q ≡ put1 P ':' → Draws (sign ':') P Q
+unfolding sign
+one-colon e = of-byte mark ':' e
+
+pub colon-null : (b : Body) (P Q : Pen) → b ≡ body.Null → Q ≡ put1 P ':' → Colon b P Q
+unfolding colon kindOf
+colon-null b P Q e d = record { drawn = λ deck pool c. rw e (one-colon d) }
+
+pub colon-scalar : (b : Body) (w : Words) (P Q : Pen) → b ≡ body.Scalar w → Q ≡ put1 P ':' → Colon b P Q
+unfolding colon kindOf
+colon-scalar b w P Q e d = record { drawn = λ deck pool c. rw e (one-colon d) }
+
+pub colon-alias : (b : Body) (t : Text) (P Q : Pen) → b ≡ body.Alias t → Q ≡ puts (SP ∷ ':' ∷ []) P → Colon b P Q
+unfolding colon kindOf sign puts
+colon-alias b t P Q e d = record { drawn = λ deck pool c. rw e (both _ _ (of-byte mark SP refl) (of-byte mark ':' d)) }
+
+pub colon-sequence : (b : Body) (g : Group) (P Q : Pen) → b ≡ body.Sequence g → Q ≡ put1 P ':' → Colon b P Q
+unfolding colon kindOf
+colon-sequence b g P Q e d = record { drawn = λ deck pool c. rw e (one-colon d) }
+
+pub colon-mapping : (b : Body) (g : Group) (P Q : Pen) → b ≡ body.Mapping g → Q ≡ put1 P ':' → Colon b P Q
+unfolding colon kindOf
+colon-mapping b g P Q e d = record { drawn = λ deck pool c. rw e (one-colon d) }
+
+-- ---- head comments
+
+pub spot-short : (deck : Bytes) (c : Cursor) (x : Spot) → c .at ≤ length deck → length deck ≤ 65536 → x ≡ spotAt deck c → Short (x .lead)
+spot-short deck c x k b e = rw e (good-at deck c k b .0 .short)
+
+pub heads-of :
+    (deck pool : Bytes) (c : Cursor) (i : ℕ) (x : Spot) (P Q : Pen) → c .at ≤ length deck → x ≡ spotAt deck c
+    → Draws (repeated Heads (keptOf deck pool (x .lead)) i) P Q → Draws (heads (kept (nodeAt deck pool c)) i) P Q
+unfolding repeated kept nodeIn
+heads-of deck pool c i x P Q k e d = rw (tree-value deck pool c k, ← e) d
+
+pub before-pair :
+    (deck pool : Bytes) (i : ℕ) (pairs : Bool) (c last : Cursor) (P Q R S : Pen) → pairs ≡ true → LastOf deck pairs c last
+    → Draws (heads (kept (nodeAt deck pool c)) i) P Q → Draws (heads (kept (nodeAt deck pool last)) i) Q R → S ≡ puts (spaces i) R → Draws (linedBefore deck pool i pairs c) P S
+unfolding linedBefore lastOf indent
+before-pair deck pool i pairs c last P Q R S e h x y z = rw e (both _ _ x (both _ _ (rw (rw e at (h .is pool)) at y) (of-puts space _ z)))
+
+pub before-item :
+    (deck pool : Bytes) (i : ℕ) (pairs : Bool) (c : Cursor) (P Q R : Pen) → pairs ≡ false
+    → Draws (heads (kept (nodeAt deck pool c)) i) P Q → R ≡ puts (spaces i) Q → Draws (linedBefore deck pool i pairs c) P R
+unfolding linedBefore indent
+before-item deck pool i pairs c P Q R e x y = rw e (both _ _ x (of-puts space _ y))

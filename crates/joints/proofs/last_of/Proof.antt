@@ -1,0 +1,22 @@
+use Rattle.joints.proofs.Laws.{last-value, last-item}
+use borrow.Author.Needs.{needs}
+use Rattle.joints.proofs.last_of.Statement.{statement}
+use Rattle.joints.proofs.last_of.Tie as tie
+use Rattle.joints.proofs.last_of.Reads as reads
+use Rattle.joints.proofs.last_of.Lts as lts
+use Rattle.node.proofs.subtree_end.Reads as subtree-end-reads
+
+-- src/lib.rt:79:9
+subtree-end-requires : tie.Need-subtree-end-requires
+subtree-end-requires c κs = search needs
+
+-- src/lib.rt:79:9
+returns : tie.Need-returns
+returns c = last-value _ _ _ _ (c .before .if1 .taken) (c .subtree-end .ensures)
+
+-- src/lib.rt:74:1
+returns-2 : tie.Need-returns-2
+returns-2 c = last-item _ _ _ (c .if1 .left) (c .before .before .pre)
+
+pub last-of-spec : {M : Type 1} → statement M
+last-of-spec = tie.close (tie.spec subtree-end-requires returns returns-2)

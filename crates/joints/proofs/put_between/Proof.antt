@@ -1,0 +1,30 @@
+use Rattle.joints.specs.Told.{on}
+use Rattle.definition.specs.Pen.{nothing}
+use Rattle.pen.specs.Pen.{ink, puts}
+use borrow.Author.Needs.{needs}
+use Rattle.joints.proofs.put_between.Statement.{statement}
+use Rattle.joints.proofs.put_between.Tie as tie
+use Rattle.joints.proofs.put_between.Reads as reads
+use Rattle.joints.proofs.put_between.Lts as lts
+use Rattle.scalar.proofs.put_separator.Reads as put-separator-reads
+
+-- src/lib.rt:44:9
+returns : tie.Need-returns
+unfolding ink nothing puts
+returns c = rw (c .if1 .taken)
+
+-- src/lib.rt:47:5
+put-separator-requires : tie.Need-put-separator-requires
+put-separator-requires c κs = search needs
+
+-- src/lib.rt:39:1
+same-length : tie.Need-same-length
+same-length c = search needs
+
+-- src/lib.rt:39:1
+returns-2 : tie.Need-returns-2
+unfolding ink on
+returns-2 c = rw (c .before .before .before .before .before .if1 .left) (c .before .before .put-separator .ensures)
+
+pub put-between-spec : {M : Type 1} → statement M
+put-between-spec = tie.close (tie.spec returns put-separator-requires same-length returns-2)

@@ -1,0 +1,14 @@
+use mathlib.Core.Path.{refl}
+use Rattle.scripts.specs.Keep.{withKey}
+use Rattle.joints.proofs.with_key.Statement.{statement}
+use Rattle.joints.proofs.with_key.Tie as tie
+use Rattle.joints.proofs.with_key.Reads as reads
+use Rattle.joints.proofs.with_key.Lts as lts
+
+-- src/lib.rt:31:1
+returns : tie.Need-returns
+unfolding withKey
+returns c = refl
+
+pub with-key-spec : {M : Type 1} → statement M
+with-key-spec = tie.close (tie.spec returns)

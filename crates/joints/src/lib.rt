@@ -1,0 +1,144 @@
+// What stands between and around the entries of a flow collection, and the marks of a run: in flow, in a key.
+use definition::Cursor;
+use definition::Settings;
+use node::Remark;
+use parts::Entries;
+use pen::Writer;
+use spot::Body;
+ghost use mathlib.Core.Path.{_≡_};
+ghost use Prim.Native.Nat.{_<_, _≤_, _^_};
+ghost use mathlib.Core.List.{[]};
+ghost use lib.ListN.{length};
+ghost use Rattle.definition.specs.Base.{if_then_else_};
+ghost use Rattle.definition.specs.Ascii.{COMMA};
+ghost use Rattle.definition.specs.Pen.{comma, nothing, sign};
+ghost use Rattle.definition.specs.Tree.{kept};
+ghost use Rattle.definition.specs.Walk.{heads};
+ghost use Rattle.node.specs.Total.{remarkOf};
+ghost use Rattle.pen.specs.Pen.{pen, ink};
+ghost use Rattle.scripts.specs.Keep.{withFlow, withKey};
+ghost use Rattle.parts.specs.Draws.{Draws};
+ghost use Rattle.joints.specs.Told.{on, Colon, LastOf};
+ghost use Rattle.joints.specs.Entries.{nodeAt, linedBefore, linedAfter, opening, closing};
+
+pub fn with_flow(mut w: Writer, n: usize) -> Writer
+    ensures { λ r. ⌜ r ≡ withFlow n (pen w []) .w ⌝ }
+{
+    w.flow = n;
+    w
+}
+
+pub fn with_key(mut w: Writer, n: usize) -> Writer
+    ensures { λ r. ⌜ r ≡ withKey n (pen w []) .w ⌝ }
+{
+    w.key = n;
+    w
+}
+
+// `emit_flow_separator`, but before the first entry.
+pub fn put_between(w: Writer, out: &mut [u8], settings: Settings, first: bool, i: usize) -> Writer
+    requires { ⌜ (w .column < 2 ^ 63) × (length (now out) < 2 ^ 62) ⌝ }
+    ensures { λ r. ⌜ pen r (now (out .exit)) ≡ ink settings (if first then nothing else comma (on (w .key)) i) (pen w (now (out .entry))) ⌝ }
+{
+    if first {
+        return w;
+    }
+    let key = w.key != 0;
+    scalar::put_separator(w, out, settings, key, i)
+}
+
+// `end_inline_key`
+pub fn put_colon(w: Writer, out: &mut [u8], body: Body) -> Writer
+    requires { ⌜ length (now out) < 2 ^ 62 ⌝ }
+    ensures { λ r. ⌜ Colon body (pen w (now (out .entry))) (pen r (now (out .exit))) ⌝ }
+{
+    match body {
+        Body::Null => w.byte(out, b':'),
+        Body::Scalar(_) => w.byte(out, b':'),
+        Body::Alias(_) => w.text(out, b" :"),
+        Body::Sequence(_) => w.byte(out, b':'),
+        Body::Mapping(_) => w.byte(out, b':'),
+    }
+}
+
+// The head comments of the node at a cursor.
+fn put_heads_at(w: Writer, deck: &[u8], pool: &[u8], out: &mut [u8], c: Cursor, i: usize) -> Writer
+    requires { ⌜ (length (now out) < 2 ^ 62) × (c .at ≤ length (now deck)) × (length (now deck) ≤ 65536) ⌝ }
+    ensures { λ r. ⌜ Draws (heads (kept (nodeAt (now (deck .entry)) (now (pool .entry)) c)) i) (pen w (now (out .entry))) (pen r (now (out .exit))) ⌝ }
+{
+    let x = spot::spot_at(deck, c);
+    parts::put_repeated(w, deck, pool, out, x.lead, Entries::Heads, i)
+}
+
+// The cursor of an entry's last node: a pair's value, or the item.
+pub fn last_of(deck: &[u8], pairs: bool, c: Cursor) -> Cursor
+    requires { ⌜ c .at ≤ length (now deck) ⌝ }
+    ensures { λ r. ⌜ LastOf (now (deck .entry)) pairs c r ⌝ }
+{
+    if pairs {
+        return node::subtree_end(deck, c);
+    }
+    c
+}
+
+// What stands before an entry on a line of its own.
+pub fn put_lined_before(
+    w: Writer,
+    deck: &[u8],
+    pool: &[u8],
+    out: &mut [u8],
+    pairs: bool,
+    c: Cursor,
+    last: Cursor,
+    i: usize,
+) -> Writer
+    requires { ⌜ (length (now out) < 2 ^ 62) × (c .at ≤ length (now deck)) × (last .at ≤ length (now deck)) × (length (now deck) ≤ 65536) × LastOf (now deck) pairs c last ⌝ }
+    ensures { λ r. ⌜ Draws (linedBefore (now (deck .entry)) (now (pool .entry)) i pairs c) (pen w (now (out .entry))) (pen r (now (out .exit))) ⌝ }
+{
+    let w1 = put_heads_at(w, deck, pool, out, c, i);
+    if pairs {
+        let w2 = put_heads_at(w1, deck, pool, out, last, i);
+        return w2.spaces(out, i);
+    }
+    w1.spaces(out, i)
+}
+
+// The comma after an entry, but after the last one.
+fn put_comma(w: Writer, out: &mut [u8], last: bool) -> Writer
+    requires { ⌜ length (now out) < 2 ^ 62 ⌝ }
+    ensures { λ r. ⌜ Draws (if last then nothing else sign COMMA) (pen w (now (out .entry))) (pen r (now (out .exit))) ⌝ }
+{
+    if last {
+        return w;
+    }
+    w.byte(out, b',')
+}
+
+// What stands after an entry on a line of its own.
+pub fn put_lined_after(
+    w: Writer,
+    pool: &[u8],
+    out: &mut [u8],
+    last: bool,
+    place: usize,
+    remark: Remark,
+) -> Writer
+    requires { ⌜ (length (now out) < 2 ^ 62) × (place < 2 ^ 62) ⌝ }
+    ensures { λ r. ⌜ Draws (linedAfter last place (remarkOf (now (pool .entry)) remark)) (pen w (now (out .entry))) (pen r (now (out .exit))) ⌝ }
+{
+    let w1 = put_comma(w, out, last);
+    let w2 = parts::put_remark(w1, pool, out, place, remark);
+    w2.byte(out, b'\n')
+}
+
+pub fn opening_of(pairs: bool) -> u8
+    ensures { λ r. ⌜ r ≡ opening pairs ⌝ }
+{
+    if pairs { b'{' } else { b'[' }
+}
+
+pub fn closing_of(pairs: bool) -> u8
+    ensures { λ r. ⌜ r ≡ closing pairs ⌝ }
+{
+    if pairs { b'}' } else { b']' }
+}
