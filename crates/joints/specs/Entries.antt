@@ -86,16 +86,15 @@ module _ (deck pool : Bytes) where
     linedRun i pairs zero c = nothing
     linedRun i pairs (suc n) c = linedOf i pairs (isNone n) c >> linedRun i pairs n (entryEnd pairs c)
 
-  module _ (s : Settings) (key : Bool) (i : ℕ) (pairs : Bool) (n : ℕ) (c : Cursor) where
-    -- a flow collection
-    unfoldable pub linedGroup : Script
-    linedGroup = sign (opening pairs) >> newline >> linedRun s true key (i + stepOf s) pairs n c >> indent i >> sign (closing pairs)
+  -- a flow collection, its entries on lines of their own at column j, or on one line
+  unfoldable pub linedIn : Settings → Bool → Bool → ℕ → ℕ → Bool → ℕ → Cursor → Script
+  linedIn s flow key i j pairs n c = sign (opening pairs) >> newline >> linedRun s flow key j pairs n c >> indent i >> sign (closing pairs)
 
-    unfoldable pub plainGroup : Script
-    plainGroup = sign (opening pairs) >> flowRun s true key i pairs true n c >> sign (closing pairs)
+  unfoldable pub plainIn : Settings → Bool → Bool → ℕ → Bool → ℕ → Cursor → Script
+  plainIn s flow key i pairs n c = sign (opening pairs) >> flowRun s flow key i pairs true n c >> sign (closing pairs)
 
-    unfoldable pub groupOf : Script
-    groupOf = if someComments pairs n c then linedGroup else plainGroup
+  unfoldable pub groupOf : Settings → Bool → ℕ → Bool → ℕ → Cursor → Script
+  groupOf s key i pairs n c = if someComments pairs n c then linedIn s true key i (i + stepOf s) pairs n c else plainIn s true key i pairs n c
 
   -- ---- the walk over the tree
 
@@ -135,24 +134,24 @@ module _ (deck pool : Bytes) where
         ∙ lined-pairs i n (nextAt (nextAt c)) _
 
     pub group-items : (flow : Bool) (i m : ℕ) (a : Kept) (b : Brought) (f : Form) (n : ℕ) (c : Cursor) (p : Pen) → ink s (contentOf s flow key i m a b (sequence f (itemsFrom (treeAt deck pool) n c .value))) p ≡ ink s (groupOf s key i false n c) p
-    unfolding ink contentOf groupOf linedGroup plainGroup someComments opening closing
+    unfolding ink contentOf groupOf linedIn plainIn someComments opening closing
     group-items flow i m a b f n c p = go (anyComments (itemsFrom (treeAt deck pool) n c .value))
       where
         go :
             (t : Bool) →
             ink s (if t then sign '[' >> newline >> linedItems s key (i + stepOf s) (itemsFrom (treeAt deck pool) n c .value) >> indent i >> sign ']' else (sign '[' >> flowItems s key i true (itemsFrom (treeAt deck pool) n c .value) >> sign ']')) p
-            ≡ ink s (if t then linedGroup s key i false n c else plainGroup s key i false n c) p
+            ≡ ink s (if t then linedIn s true key i (i + stepOf s) false n c else plainIn s true key i false n c) p
         go true = ap (λ (q : Pen). ink s (indent i >> sign ']') q) (lined-items (i + stepOf s) n c _)
         go false = ap (λ (q : Pen). ink s (sign ']') q) (flow-items i true n c _)
 
     pub group-pairs : (flow : Bool) (i m : ℕ) (a : Kept) (b : Brought) (f : Form) (n : ℕ) (c : Cursor) (p : Pen) → ink s (contentOf s flow key i m a b (mapping f (pairsFrom (treeAt deck pool) n c .value))) p ≡ ink s (groupOf s key i true n c) p
-    unfolding ink contentOf groupOf linedGroup plainGroup someComments opening closing
+    unfolding ink contentOf groupOf linedIn plainIn someComments opening closing
     group-pairs flow i m a b f n c p = go (anyCommentsIn (pairsFrom (treeAt deck pool) n c .value))
       where
         go :
             (t : Bool) →
             ink s (if t then sign OPEN >> newline >> linedPairs s key (i + stepOf s) (pairsFrom (treeAt deck pool) n c .value) >> indent i >> sign CLOSE else (sign OPEN >> flowPairs s key i true (pairsFrom (treeAt deck pool) n c .value) >> sign CLOSE)) p
-            ≡ ink s (if t then linedGroup s key i true n c else plainGroup s key i true n c) p
+            ≡ ink s (if t then linedIn s true key i (i + stepOf s) true n c else plainIn s true key i true n c) p
         go true = ap (λ (q : Pen). ink s (indent i >> sign CLOSE) q) (lined-pairs (i + stepOf s) n c _)
         go false = ap (λ (q : Pen). ink s (sign CLOSE) q) (flow-pairs i true n c _)
 
