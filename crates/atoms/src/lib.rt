@@ -67,7 +67,7 @@ pub fn put_alias(w: Writer, pool: &[u8], out: &mut [u8], t: Text) -> Writer
     w1.text(out, deck::words_of(pool, t))
 }
 
-fn is_block_style(style: Style) -> bool
+pub fn is_block_style(style: Style) -> bool
     ensures { λ r. ⌜ r ≡ isBlockStyle style ⌝ }
 {
     match style {
