@@ -1,0 +1,70 @@
+-- Laws of atoms, for the functions that write them.
+-- Assumes nothing.
+use mathlib.Core.Path.{_≡_, ap, _∙_}
+use Prim.Native.Nat.{ℕ, zero, suc, _≤_}
+use native.Mathlib.Omega.{arith}
+use mathlib.Core.Bool.{Bool, true, false, not, _&&_}
+use mathlib.Core.List.{[], _∷_}
+use lib.Dec.{eqb}
+use lib.ListN.{length, take, drop, length-drop}
+use borrow.Author.Tests.{eq-eqb, ne-eqb}
+use Rattle.definition.specs.Base.{Bytes, if_then_else_, isSome}
+use Rattle.definition.specs.Ascii.{'*'}
+use Rattle.definition.specs.Scalar.{markerOf}
+use Rattle.definition.specs.Deck.{words}
+use Rattle.definition.specs.Pen.{Script}
+use Rattle.definition.specs.Walk.{isBlockStyle, replays}
+use Rattle.definition.specs.declared.Settings.{Settings}
+use Rattle.definition.specs.declared.Style.{Style}
+use Rattle.definition.specs.declared.Text.{Text}
+use Rattle.node.specs.declared.Held.{Held}
+use Rattle.node.specs.declared.Remark.{Remark}
+use Rattle.node.specs.Total.{heldOf, remarkOf}
+use Rattle.laws.specs.Leaf.{scalarBytes}
+use Rattle.pen.specs.Pen.{Pen, put1, puts, rawed, ink}
+use Rattle.parts.specs.Draws.{Draws}
+use Rattle.atoms.specs.Atoms.{on, commented, freshIn, remark-some}
+
+take-short : (n : ℕ) (s : Bytes) → length (take n s) ≤ length s
+take-short zero s = omega arith
+take-short (suc n) [] = omega arith
+take-short (suc n) (b ∷ s) = let h = take-short n s in omega (arith, h)
+
+-- a text is no longer than the pool
+pub words-short : (pool : Bytes) (x : Text) {t : Bytes} {n : ℕ} → t ≡ words pool x → length pool ≤ n → length t ≤ n
+unfolding words
+words-short pool x e h = rw e (let k = take-short (x .len) (drop (x .from) pool) in omega (arith, k, length-drop (x .from) pool, h))
+
+-- a star before a name
+pub starred : (pool : Bytes) (x : Text) (P : Pen) {Q R : Pen} (t : Bytes) → t ≡ words pool x → Q ≡ put1 P '*' → R ≡ puts t Q → R ≡ puts ('*' ∷ words pool x) P
+unfolding puts
+starred pool x P t e f g = rw (← e) (g ∙ ap (puts t) f)
+
+-- a scalar that is not replayed: with a comment on its header, and otherwise
+pub with-comment :
+    (s : Settings) (flow key : Bool) (i p : ℕ) (pool : Bytes) (m : Remark) (x : Text) (y : Style) {t : Bytes} {marker : ℕ} {r : Bool} {P Q : Pen}
+    → r ≡ (on (m .present) && isBlockStyle y && not flow) → r ≡ true → t ≡ words pool x → marker ≡ markerOf y
+    → Draws (commented marker i p (remarkOf pool m) t) P Q → Q ≡ ink s (freshIn flow key i p (remarkOf pool m) (words pool x) y) P
+unfolding freshIn
+with-comment s flow key i p pool m x y e f g h d = rw (remark-some pool m, ← e, f, ← g, ← h) (d .drawn s)
+
+pub without-comment :
+    (s : Settings) (flow key : Bool) (i p : ℕ) (pool : Bytes) (m : Remark) (x : Text) (y : Style) (P : Pen) {Q : Pen} {t : Bytes} {r : Bool}
+    → r ≡ (on (m .present) && isBlockStyle y && not flow) → r ≡ false → t ≡ words pool x
+    → Q ≡ puts (scalarBytes s flow key t y i (P .w .column)) P → Q ≡ ink s (freshIn flow key i p (remarkOf pool m) (words pool x) y) P
+unfolding freshIn ink
+without-comment s flow key i p pool m x y P e f g d = rw (remark-some pool m, ← e, f, ← g) d
+
+-- a raw text: absent, put aside, replayed
+module _ (s : Settings) (p : ℕ) (pool : Bytes) (h : Held) (modified : Bool) (a : Script) (P : Pen) {Q : Pen} where
+  pub no-raw : h .present ≡ 0 → Q ≡ ink s a P → Q ≡ ink s (replays p (heldOf pool h) modified a) P
+  unfolding replays heldOf
+  no-raw e d = rw (eq-eqb _ _ e) d
+
+  pub aside : (h .present ≡ 0 → ⊥) → modified ≡ true → Q ≡ ink s a P → Q ≡ ink s (replays p (heldOf pool h) modified a) P
+  unfolding replays heldOf
+  aside e f d = rw (ne-eqb _ _ e, f) d
+
+  pub again : {t : Bytes} → (h .present ≡ 0 → ⊥) → modified ≡ false → t ≡ words pool (h .text) → Q ≡ rawed t P → Q ≡ ink s (replays p (heldOf pool h) modified a) P
+  unfolding replays heldOf ink
+  again e f g d = rw (ne-eqb _ _ e, f, ← g) d

@@ -1,0 +1,36 @@
+use Rattle.definition.specs.Settings.{isTilde}
+use borrow.Author.Needs.{needs}
+use Rattle.atoms.proofs.is_tilde.Statement.{statement}
+use Rattle.atoms.proofs.is_tilde.Tie as tie
+use Rattle.atoms.proofs.is_tilde.Reads as reads
+use Rattle.atoms.proofs.is_tilde.Lts as lts
+
+-- src/lib.rt:36:28
+enum-told : tie.Need-enum-told
+enum-told c = search needs
+
+-- src/lib.rt:37:29
+enum-told-2 : tie.Need-enum-told-2
+enum-told-2 c = search needs
+
+-- src/lib.rt:38:29
+enum-told-3 : tie.Need-enum-told-3
+enum-told-3 c = search needs
+
+-- src/lib.rt:31:1
+returns : tie.Need-returns
+unfolding isTilde
+returns c = rw (c .enum-told .given .1)
+
+-- src/lib.rt:31:1
+returns-2 : tie.Need-returns-2
+unfolding isTilde
+returns-2 c = rw (c .enum-told2 .given .1)
+
+-- src/lib.rt:31:1
+returns-3 : tie.Need-returns-3
+unfolding isTilde
+returns-3 c = rw (c .enum-told3 .given .1)
+
+pub is-tilde-spec : {M : Type 1} → statement M
+is-tilde-spec = tie.close (tie.spec enum-told enum-told-2 enum-told-3 returns returns-2 returns-3)

@@ -1,0 +1,33 @@
+use Rattle.atoms.proofs.Laws.{starred}
+use borrow.Author.Needs.{needs}
+use Rattle.atoms.proofs.put_alias.Statement.{statement}
+use Rattle.atoms.proofs.put_alias.Tie as tie
+use Rattle.atoms.proofs.put_alias.Reads as reads
+use Rattle.atoms.proofs.put_alias.Lts as lts
+use Rattle.deck.proofs.words_of.Reads as words-of-reads
+use Rattle.pen.proofs.Writer.byte.Reads as byte-reads
+use Rattle.pen.proofs.Writer.text.Reads as text-reads
+
+-- src/lib.rt:66:9
+byte-requires : tie.Need-byte-requires
+byte-requires c κs = search needs
+
+-- src/lib.rt:67:18
+words-of-requires : tie.Need-words-of-requires
+words-of-requires c κs = search needs
+
+-- src/lib.rt:67:5
+text-requires : tie.Need-text-requires
+text-requires c κs = search needs
+
+-- src/lib.rt:62:1
+same-length : tie.Need-same-length
+same-length c = search needs
+
+-- src/lib.rt:62:1
+returns : tie.Need-returns
+returns c = starred _ _ _ _ (c .before .before .before .words-of .ensures) (c .before .before .before .before .before .before .before .byte .ensures) (c .before .before .text .ensures)
+
+pub put-alias-spec : {M : Type 1} → statement M
+put-alias-spec =
+    tie.close (tie.spec byte-requires words-of-requires text-requires same-length returns)

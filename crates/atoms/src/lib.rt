@@ -1,0 +1,179 @@
+// What is written of a node without children: a null, an alias, a scalar that is replayed or written anew.
+use blocks::put_block_body;
+use blocks::put_header;
+use definition::Lines;
+use definition::NullStyle;
+use definition::Settings;
+use definition::Style;
+use definition::Text;
+use definition::Words;
+use node::Held;
+use node::Remark;
+use parts::is_marked;
+use parts::put_remark;
+use pen::Writer;
+use scalar::put_scalar;
+ghost use mathlib.Core.Path.{_≡_};
+ghost use mathlib.Core.Bool.{not, _&&_};
+ghost use mathlib.Core.List.{_∷_};
+ghost use Prim.Native.Nat.{_<_, _≤_, _^_};
+ghost use lib.ListN.{length};
+ghost use Rattle.definition.specs.Ascii.{'*'};
+ghost use Rattle.definition.specs.Settings.{isTilde};
+ghost use Rattle.definition.specs.Scalar.{markerOf};
+ghost use Rattle.definition.specs.Deck.{marked, words};
+ghost use Rattle.definition.specs.Walk.{isBlockStyle, replays};
+ghost use Rattle.node.specs.Total.{heldOf, remarkOf};
+ghost use Rattle.pen.specs.Pen.{pen, puts, ink};
+ghost use Rattle.parts.specs.Draws.{Draws};
+ghost use Rattle.atoms.specs.Atoms.{on, nullIn, commented, freshIn};
+
+fn is_tilde(settings: Settings) -> bool
+    ensures { λ r. ⌜ r ≡ isTilde (settings .«null_style») ⌝ }
+{
+    let style = settings.null_style;
+    match style {
+        NullStyle::Null => false,
+        NullStyle::Empty => false,
+        NullStyle::Tilde => true,
+    }
+}
+
+// A null that was edited in, where those are written `~`.
+fn is_tilde_null(settings: Settings, lines: Lines) -> bool
+    ensures { λ r. ⌜ r ≡ (marked (lines .marks) 8 && isTilde (settings .«null_style»)) ⌝ }
+{
+    if is_marked(lines.marks, 8) {
+        return is_tilde(settings);
+    }
+    false
+}
+
+pub fn put_null(w: Writer, out: &mut [u8], settings: Settings, lines: Lines) -> Writer
+    requires { ⌜ length (now out) < 2 ^ 62 ⌝ }
+    ensures { λ r. ⌜ pen r (now (out .exit)) ≡ puts (nullIn settings lines) (pen w (now (out .entry))) ⌝ }
+{
+    if is_tilde_null(settings, lines) {
+        return w.byte(out, b'~');
+    }
+    w.text(out, b"null")
+}
+
+pub fn put_alias(w: Writer, pool: &[u8], out: &mut [u8], t: Text) -> Writer
+    requires { ⌜ length (now out) < 2 ^ 62 ⌝ }
+    ensures { λ r. ⌜ pen r (now (out .exit)) ≡ puts ('*' ∷ words (now (pool .entry)) t) (pen w (now (out .entry))) ⌝ }
+{
+    let w1 = w.byte(out, b'*');
+    w1.text(out, deck::words_of(pool, t))
+}
+
+pub fn is_block_style(style: Style) -> bool
+    ensures { λ r. ⌜ r ≡ isBlockStyle style ⌝ }
+{
+    match style {
+        Style::Plain => false,
+        Style::Single => false,
+        Style::Double => false,
+        Style::Literal => true,
+        Style::Folded => true,
+    }
+}
+
+// The marker of a block scalar.
+fn marker_of(style: Style) -> u8
+    ensures { λ r. ⌜ r ≡ markerOf style ⌝ }
+{
+    match style {
+        Style::Plain => b'|',
+        Style::Single => b'|',
+        Style::Double => b'|',
+        Style::Literal => b'|',
+        Style::Folded => b'>',
+    }
+}
+
+// The inline comment goes on a block scalar's header.
+fn is_on_header(remark: Remark, style: Style, flow: bool) -> bool
+    ensures { λ r. ⌜ r ≡ (on (remark .present) && isBlockStyle style && not flow) ⌝ }
+{
+    if remark.present == 0 {
+        return false;
+    }
+    if is_block_style(style) {
+        return !flow;
+    }
+    false
+}
+
+// A block scalar with an inline comment on its header.
+fn put_commented(
+    w: Writer,
+    pool: &[u8],
+    out: &mut [u8],
+    marker: u8,
+    i: usize,
+    place: usize,
+    remark: Remark,
+    t: &[u8],
+) -> Writer
+    requires { ⌜ (length (now out) < 2 ^ 62) × (place < 2 ^ 62) ⌝ }
+    ensures { λ r. ⌜ Draws (commented marker i place (remarkOf (now (pool .entry)) remark) (now (t .entry))) (pen w (now (out .entry))) (pen r (now (out .exit))) ⌝ }
+{
+    let w1 = put_header(w, out, t, marker);
+    let w2 = put_remark(w1, pool, out, place, remark);
+    put_block_body(w2, out, t, i)
+}
+
+// A scalar that is not replayed.
+fn put_fresh(
+    w: Writer,
+    pool: &[u8],
+    out: &mut [u8],
+    settings: Settings,
+    i: usize,
+    place: usize,
+    remark: Remark,
+    said: Words,
+) -> Writer
+    requires { ⌜ (length (now out) < 2 ^ 62) × (length (now pool) ≤ 65536) × (place < 2 ^ 62) × (w .column < 2 ^ 63) ⌝ }
+    ensures { λ r. ⌜ pen r (now (out .exit)) ≡ ink settings
+        (freshIn (on (w .flow)) (on (w .key)) i place (remarkOf (now (pool .entry)) remark) (words (now (pool .entry)) (said .text)) (said .style))
+        (pen w (now (out .entry))) ⌝ }
+{
+    let flow = w.flow != 0;
+    let key = w.key != 0;
+    let style = said.style;
+    let t = deck::words_of(pool, said.text);
+    if is_on_header(remark, style, flow) {
+        return put_commented(w, pool, out, marker_of(style), i, place, remark, t);
+    }
+    put_scalar(w, out, settings, flow, key, t, style, i)
+}
+
+// A scalar: its raw text is replayed unless the node is modified.
+pub fn put_words(
+    w: Writer,
+    pool: &[u8],
+    out: &mut [u8],
+    settings: Settings,
+    i: usize,
+    place: usize,
+    remark: Remark,
+    raw: Held,
+    modified: bool,
+    said: Words,
+) -> Writer
+    requires { ⌜ (length (now out) < 2 ^ 62) × (length (now pool) ≤ 65536) × (place < 2 ^ 62) × (w .column < 2 ^ 63) × (w .len < 2 ^ 62) ⌝ }
+    ensures { λ r. ⌜ pen r (now (out .exit)) ≡ ink settings
+        (replays place (heldOf (now (pool .entry)) raw) modified
+        (freshIn (on (w .flow)) (on (w .key)) i place (remarkOf (now (pool .entry)) remark) (words (now (pool .entry)) (said .text)) (said .style)))
+        (pen w (now (out .entry))) ⌝ }
+{
+    if raw.present == 0 {
+        return put_fresh(w, pool, out, settings, i, place, remark, said);
+    }
+    if modified {
+        return put_fresh(w, pool, out, settings, i, place, remark, said);
+    }
+    w.replay(out, deck::words_of(pool, raw.text))
+}

@@ -1,0 +1,22 @@
+use Rattle.choices.proofs.Laws.{of-pairs}
+use borrow.Author.Needs.{needs}
+use Rattle.choices.proofs.any_comments_in.Statement.{statement}
+use Rattle.choices.proofs.any_comments_in.Tie as tie
+use Rattle.choices.proofs.any_comments_in.Reads as reads
+use Rattle.choices.proofs.any_comments_in.Lts as lts
+use Rattle.choices.proofs.some_comments.Reads as some-comments-reads
+
+-- src/lib.rt:439:28
+mul-some-comments : tie.Need-mul-some-comments
+mul-some-comments c = search needs
+
+-- src/lib.rt:439:5
+some-comments-requires : tie.Need-some-comments-requires
+some-comments-requires c κs = search needs
+
+-- src/lib.rt:435:1
+returns : tie.Need-returns
+returns c = of-pairs _ _ _ _ (c .some-comments .ensures)
+
+pub any-comments-in-spec : {M : Type 1} → statement M
+any-comments-in-spec = tie.close (tie.spec mul-some-comments some-comments-requires returns)

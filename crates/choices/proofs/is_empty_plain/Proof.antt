@@ -1,0 +1,27 @@
+use Rattle.choices.proofs.Laws.{nil-length}
+use borrow.Author.Needs.{needs}
+use Rattle.choices.proofs.is_empty_plain.Statement.{statement}
+use Rattle.choices.proofs.is_empty_plain.Tie as tie
+use Rattle.choices.proofs.is_empty_plain.Reads as reads
+use Rattle.choices.proofs.is_empty_plain.Lts as lts
+use Rattle.choices.proofs.is_plain.Reads as is-plain-reads
+use Rattle.deck.proofs.words_of.Reads as words-of-reads
+
+-- src/lib.rt:104:8
+is-plain-requires : tie.Need-is-plain-requires
+is-plain-requires c κs = search needs
+
+-- src/lib.rt:105:13
+words-of-requires : tie.Need-words-of-requires
+words-of-requires c κs = search needs
+
+-- src/lib.rt:106:9
+returns : tie.Need-returns
+returns c = rw (← c .before .before .is-plain .ensures, c .before .if1 .taken, ← c .words-of .ensures) (nil-length _)
+
+-- src/lib.rt:100:1
+returns-2 : tie.Need-returns-2
+returns-2 c = rw (← c .before .is-plain .ensures, c .if1 .left)
+
+pub is-empty-plain-spec : {M : Type 1} → statement M
+is-empty-plain-spec = tie.close (tie.spec is-plain-requires words-of-requires returns returns-2)

@@ -1,0 +1,15 @@
+use mathlib.Core.Path.{refl}
+use Rattle.atoms.specs.Atoms.{on}
+use Rattle.choices.specs.Choices.{includedIn}
+use Rattle.choices.proofs.is_included.Statement.{statement}
+use Rattle.choices.proofs.is_included.Tie as tie
+use Rattle.choices.proofs.is_included.Reads as reads
+use Rattle.choices.proofs.is_included.Lts as lts
+
+-- src/lib.rt:140:1
+returns : tie.Need-returns
+unfolding includedIn on
+returns c = refl
+
+pub is-included-spec : {M : Type 1} → statement M
+is-included-spec = tie.close (tie.spec returns)

@@ -1,0 +1,26 @@
+use borrow.Author.Needs.{needs}
+use Rattle.choices.proofs.is_tagged.Statement.{statement}
+use Rattle.choices.proofs.is_tagged.Tie as tie
+use Rattle.choices.proofs.is_tagged.Reads as reads
+use Rattle.choices.proofs.is_tagged.Lts as lts
+use Rattle.choices.proofs.is_held.Reads as is-held-reads
+use Rattle.parts.proofs.is_marked.Reads as is-marked-reads
+
+-- src/lib.rt:343:8
+is-marked-requires : tie.Need-is-marked-requires
+is-marked-requires c κs = search needs
+
+-- src/lib.rt:344:9
+is-held-requires : tie.Need-is-held-requires
+is-held-requires c κs = search needs
+
+-- src/lib.rt:344:9
+returns : tie.Need-returns
+returns c = rw (← c .before .before .is-marked .ensures, c .before .if1 .taken) (c .is-held .ensures)
+
+-- src/lib.rt:340:1
+returns-2 : tie.Need-returns-2
+returns-2 c = rw (← c .before .is-marked .ensures, c .if1 .left)
+
+pub is-tagged-spec : {M : Type 1} → statement M
+is-tagged-spec = tie.close (tie.spec is-marked-requires is-held-requires returns returns-2)

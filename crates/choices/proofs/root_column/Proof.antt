@@ -1,0 +1,30 @@
+use native.Mathlib.Omega.{arith}
+use Rattle.choices.specs.Choices.{rootColumnIn}
+use borrow.Author.Needs.{needs}
+use Rattle.choices.proofs.root_column.Statement.{statement}
+use Rattle.choices.proofs.root_column.Tie as tie
+use Rattle.choices.proofs.root_column.Reads as reads
+use Rattle.choices.proofs.root_column.Lts as lts
+use Rattle.choices.proofs.is_under_tag.Reads as is-under-tag-reads
+use Rattle.choices.proofs.step_of.Reads as step-of-reads
+
+-- src/lib.rt:363:8
+is-under-tag-requires : tie.Need-is-under-tag-requires
+is-under-tag-requires c κs = search needs
+
+-- src/lib.rt:364:9
+step-of-requires : tie.Need-step-of-requires
+step-of-requires c κs = search needs
+
+-- src/lib.rt:364:9
+returns : tie.Need-returns
+unfolding rootColumnIn
+returns c = (rw (← c .before .before .is-under-tag .ensures, c .before .if1 .taken) (c .step-of .ensures .0), c .step-of .ensures .1)
+
+-- src/lib.rt:360:1
+returns-2 : tie.Need-returns-2
+unfolding rootColumnIn
+returns-2 c = (rw (← c .before .is-under-tag .ensures, c .if1 .left), λ h. omega arith)
+
+pub root-column-spec : {M : Type 1} → statement M
+root-column-spec = tie.close (tie.spec is-under-tag-requires step-of-requires returns returns-2)

@@ -1,0 +1,36 @@
+use native.Mathlib.Omega.{arith}
+use Rattle.choices.specs.Choices.{valueColumnIn}
+use borrow.Author.Needs.{needs}
+use Rattle.choices.proofs.value_column.Statement.{statement}
+use Rattle.choices.proofs.value_column.Tie as tie
+use Rattle.choices.proofs.value_column.Reads as reads
+use Rattle.choices.proofs.value_column.Lts as lts
+use Rattle.choices.proofs.is_flush_sequence.Reads as is-flush-sequence-reads
+use Rattle.choices.proofs.step_of.Reads as step-of-reads
+
+-- src/lib.rt:282:8
+is-flush-sequence-requires : tie.Need-is-flush-sequence-requires
+is-flush-sequence-requires c κs = search needs
+
+-- src/lib.rt:283:9
+returns : tie.Need-returns
+unfolding valueColumnIn
+returns c = (rw (← c .before .is-flush-sequence .ensures, c .if1 .taken), omega arith, omega arith)
+
+-- src/lib.rt:285:9
+step-of-requires : tie.Need-step-of-requires
+step-of-requires c κs = search needs
+
+-- src/lib.rt:285:5
+add-result : tie.Need-add-result
+add-result c = let p = c .before .before .before .pre in let k = c .step-of .ensures .1 (p .1) in omega (arith, k, p .0)
+
+-- src/lib.rt:278:1
+returns-2 : tie.Need-returns-2
+unfolding valueColumnIn
+returns-2 c = let p = c .before .before .before .pre in let k = c .step-of .ensures .1 (p .1) in
+    (rw (← c .before .before .is-flush-sequence .ensures, c .before .if1 .left, ← c .step-of .ensures .0), omega arith, omega (arith, k))
+
+pub value-column-spec : {M : Type 1} → statement M
+value-column-spec =
+    tie.close (tie.spec is-flush-sequence-requires returns step-of-requires add-result returns-2)

@@ -1,0 +1,440 @@
+// The walk's tests on a node, and the columns that it chooses, from what the emitter takes of the node.
+use atoms::is_block_style;
+use definition::Cursor;
+use definition::Form;
+use definition::Group;
+use definition::Lines;
+use definition::NullStyle;
+use definition::Settings;
+use definition::Style;
+use definition::Words;
+use node::Held;
+use node::Lead;
+use node::Origin;
+use node::Remark;
+use parts::has_props;
+use parts::is_marked;
+use spot::Body;
+ghost use mathlib.Core.Path.{_≡_};
+ghost use mathlib.Core.Bool.{not, _&&_, _||_};
+ghost use Prim.Native.Nat.{_+_, _<_, _≤_, _^_};
+ghost use lib.ListN.{length};
+ghost use Rattle.definition.specs.Base.{isNil};
+ghost use Rattle.definition.specs.Settings.{stepOf, isEmptyStyle};
+ghost use Rattle.definition.specs.Deck.{words, marked};
+ghost use Rattle.definition.specs.Walk.{isBlockForm, isBlockStyle, isPlain};
+ghost use Rattle.parts.specs.Runs.{hasHeld};
+ghost use Rattle.spot.specs.Spot.{spotAt};
+ghost use Rattle.atoms.specs.Atoms.{on};
+ghost use Rattle.choices.specs.Choices.{blockGroup, blockIn, sequenceIn, noneIn, emptyIn, commentsIn, needsIn, explicitIn, includedIn, editedIn, bareIn, flushIn, valueColumnIn, itemColumnIn, onDashLineIn, rootColumnIn, bareRootIn};
+ghost use Rattle.choices.specs.Siblings.{Some, SomeItems, SomePairs};
+
+fn is_block_form(form: Form) -> bool
+    ensures { λ r. ⌜ r ≡ isBlockForm form ⌝ }
+{
+    match form {
+        Form::Block => true,
+        Form::Flow => false,
+    }
+}
+
+// A block collection that is not empty.
+fn is_block_group(g: Group) -> bool
+    ensures { λ r. ⌜ r ≡ blockGroup g ⌝ }
+{
+    let form = g.form;
+    if is_block_form(form) {
+        return g.count != 0;
+    }
+    false
+}
+
+pub fn is_block(body: Body) -> bool
+    ensures { λ r. ⌜ r ≡ blockIn body ⌝ }
+{
+    match body {
+        Body::Null => false,
+        Body::Scalar(_) => false,
+        Body::Alias(_) => false,
+        Body::Sequence(g) => is_block_group(g),
+        Body::Mapping(g) => is_block_group(g),
+    }
+}
+
+pub fn is_sequence(body: Body) -> bool
+    ensures { λ r. ⌜ r ≡ sequenceIn body ⌝ }
+{
+    match body {
+        Body::Null => false,
+        Body::Scalar(_) => false,
+        Body::Alias(_) => false,
+        Body::Sequence(_) => true,
+        Body::Mapping(_) => false,
+    }
+}
+
+pub fn is_null(body: Body) -> bool
+    ensures { λ r. ⌜ r ≡ noneIn body ⌝ }
+{
+    match body {
+        Body::Null => true,
+        Body::Scalar(_) => false,
+        Body::Alias(_) => false,
+        Body::Sequence(_) => false,
+        Body::Mapping(_) => false,
+    }
+}
+
+fn is_plain(style: Style) -> bool
+    ensures { λ r. ⌜ r ≡ isPlain style ⌝ }
+{
+    match style {
+        Style::Plain => true,
+        Style::Single => false,
+        Style::Double => false,
+        Style::Literal => false,
+        Style::Folded => false,
+    }
+}
+
+fn is_empty_plain(pool: &[u8], said: Words) -> bool
+    ensures { λ r. ⌜ r ≡ (isPlain (said .style) && isNil (words (now (pool .entry)) (said .text))) ⌝ }
+{
+    let style = said.style;
+    if is_plain(style) {
+        let t = deck::words_of(pool, said.text);
+        return t.len() == 0;
+    }
+    false
+}
+
+// A null, or a plain scalar of no bytes.
+pub fn is_empty_scalar(body: Body, pool: &[u8]) -> bool
+    ensures { λ r. ⌜ r ≡ emptyIn (now (pool .entry)) body ⌝ }
+{
+    match body {
+        Body::Null => true,
+        Body::Scalar(said) => is_empty_plain(pool, said),
+        Body::Alias(_) => false,
+        Body::Sequence(_) => false,
+        Body::Mapping(_) => false,
+    }
+}
+
+// `node_has_comments`
+pub fn has_comments(lead: Lead) -> bool
+    ensures { λ r. ⌜ r ≡ commentsIn lead ⌝ }
+{
+    let heads = lead.heads;
+    if heads.count != 0 {
+        return true;
+    }
+    let remark = lead.remark;
+    if remark.present != 0 {
+        return true;
+    }
+    let foots = lead.foots;
+    foots.count != 0
+}
+
+pub fn is_included(origin: Origin) -> bool
+    ensures { λ r. ⌜ r ≡ includedIn origin ⌝ }
+{
+    origin.present != 0
+}
+
+fn is_explicit_scalar(lines: Lines, said: Words) -> bool
+    ensures { λ r. ⌜ r ≡ (marked (lines .marks) 16 || isBlockStyle (said .style)) ⌝ }
+{
+    if is_marked(lines.marks, 16) {
+        return true;
+    }
+    let style = said.style;
+    is_block_style(style)
+}
+
+// `key_needs_explicit`
+fn needs_explicit(lines: Lines, body: Body) -> bool
+    ensures { λ r. ⌜ r ≡ needsIn lines body ⌝ }
+{
+    match body {
+        Body::Null => false,
+        Body::Scalar(said) => is_explicit_scalar(lines, said),
+        Body::Alias(_) => is_marked(lines.marks, 16),
+        Body::Sequence(g) => is_block_group(g),
+        Body::Mapping(g) => is_block_group(g),
+    }
+}
+
+// A key is written with `?`; `first` is the first key of its mapping.
+pub fn is_explicit(first: bool, lead: Lead, body: Body) -> bool
+    ensures { λ r. ⌜ r ≡ explicitIn first lead body ⌝ }
+{
+    let lines = lead.lines;
+    if needs_explicit(lines, body) {
+        return true;
+    }
+    if first {
+        return false;
+    }
+    if is_marked(lines.marks, 8) {
+        return has_props(lead);
+    }
+    false
+}
+
+fn is_empty_style(settings: Settings) -> bool
+    ensures { λ r. ⌜ r ≡ isEmptyStyle (settings .«null_style») ⌝ }
+{
+    let style = settings.null_style;
+    match style {
+        NullStyle::Null => false,
+        NullStyle::Empty => true,
+        NullStyle::Tilde => false,
+    }
+}
+
+// A null that was edited in.
+fn is_edited(lines: Lines, body: Body) -> bool
+    ensures { λ r. ⌜ r ≡ editedIn lines body ⌝ }
+{
+    if is_marked(lines.marks, 8) {
+        return is_null(body);
+    }
+    false
+}
+
+fn is_silent(settings: Settings, lines: Lines, remark: Remark, body: Body) -> bool
+    ensures { λ r. ⌜ r ≡ (not (on (remark .present)) && (not (editedIn lines body) || isEmptyStyle (settings .«null_style»))) ⌝ }
+{
+    if remark.present != 0 {
+        return false;
+    }
+    if is_edited(lines, body) {
+        return is_empty_style(settings);
+    }
+    true
+}
+
+// A null or an empty plain scalar of which nothing is written after its introducer.
+pub fn bare(settings: Settings, pool: &[u8], lines: Lines, remark: Remark, body: Body) -> bool
+    ensures { λ r. ⌜ r ≡ bareIn settings (now (pool .entry)) lines remark body ⌝ }
+{
+    if is_empty_scalar(body, pool) {
+        return is_silent(settings, lines, remark, body);
+    }
+    false
+}
+
+// Columns of one step: 0 means 2.
+pub fn step_of(settings: Settings) -> usize
+    ensures { λ r. ⌜ (r ≡ stepOf settings) × (settings .indent ≤ 16 → r ≤ 16) ⌝ }
+{
+    let step = settings.indent;
+    if step == 0 {
+        return 2;
+    }
+    step
+}
+
+fn is_held(h: Held) -> bool
+    ensures { λ r. ⌜ r ≡ hasHeld h ⌝ }
+{
+    h.present != 0
+}
+
+fn is_held_either(tag: Held, anchor: Held) -> bool
+    ensures { λ r. ⌜ r ≡ (hasHeld tag || hasHeld anchor) ⌝ }
+{
+    if is_held(tag) {
+        return true;
+    }
+    is_held(anchor)
+}
+
+// A sequence stands at its key's column.
+fn is_flush(settings: Settings, lines: Lines, tag: Held, i: usize) -> bool
+    ensures { λ r. ⌜ r ≡ flushIn settings lines tag i ⌝ }
+{
+    if settings.indent_sequences {
+        if settings.indentless {
+            return !is_held(tag);
+        }
+        return false;
+    }
+    lines.column <= i
+}
+
+fn is_flush_sequence(settings: Settings, lines: Lines, tag: Held, i: usize, body: Body) -> bool
+    ensures { λ r. ⌜ r ≡ (sequenceIn body && flushIn settings lines tag i) ⌝ }
+{
+    if is_sequence(body) {
+        return is_flush(settings, lines, tag, i);
+    }
+    false
+}
+
+// The column of a block collection's body after a key at column i.
+pub fn value_column(settings: Settings, lines: Lines, tag: Held, i: usize, body: Body) -> usize
+    requires { ⌜ (i < 2 ^ 40) × (settings .indent ≤ 16) ⌝ }
+    ensures { λ r. ⌜ (r ≡ valueColumnIn settings lines tag i body) × (i ≤ r) × (r ≤ i + 16) ⌝ }
+{
+    if is_flush_sequence(settings, lines, tag, i, body) {
+        return i;
+    }
+    i + step_of(settings)
+}
+
+fn is_stepped(tag: Held, anchor: Held, body: Body) -> bool
+    ensures { λ r. ⌜ r ≡ ((hasHeld tag || hasHeld anchor) && not (sequenceIn body)) ⌝ }
+{
+    if is_held_either(tag, anchor) {
+        return !is_sequence(body);
+    }
+    false
+}
+
+// The column of a block collection's body after a dash at column i.
+pub fn item_column(settings: Settings, tag: Held, anchor: Held, i: usize, body: Body) -> usize
+    requires { ⌜ (i < 2 ^ 40) × (settings .indent ≤ 16) ⌝ }
+    ensures { λ r. ⌜ (r ≡ itemColumnIn settings tag anchor i body) × (i ≤ r) × (r ≤ i + 16) ⌝ }
+{
+    if is_stepped(tag, anchor, body) {
+        return i + step_of(settings);
+    }
+    i + 2
+}
+
+// A mapping goes on its dash's line.
+fn is_unbroken(lines: Lines, remark: Remark) -> bool
+    ensures { λ r. ⌜ r ≡ not (on (remark .present) || marked (lines .marks) 2) ⌝ }
+{
+    if remark.present != 0 {
+        return false;
+    }
+    !is_marked(lines.marks, 2)
+}
+
+// A block collection goes on its dash's line.
+pub fn on_dash_line(lines: Lines, tag: Held, anchor: Held, remark: Remark, body: Body) -> bool
+    ensures { λ r. ⌜ r ≡ onDashLineIn lines tag anchor remark body ⌝ }
+{
+    if is_held_either(tag, anchor) {
+        return false;
+    }
+    if is_sequence(body) {
+        return is_marked(lines.marks, 4);
+    }
+    is_unbroken(lines, remark)
+}
+
+fn is_level(settings: Settings, body: Body) -> bool
+    ensures { λ r. ⌜ r ≡ (sequenceIn body && settings .indentless) ⌝ }
+{
+    if is_sequence(body) {
+        return settings.indentless;
+    }
+    false
+}
+
+fn is_tagged(lines: Lines, tag: Held) -> bool
+    ensures { λ r. ⌜ r ≡ (marked (lines .marks) 8 && hasHeld tag) ⌝ }
+{
+    if is_marked(lines.marks, 8) {
+        return is_held(tag);
+    }
+    false
+}
+
+// The body of a root collection stands a step in: under a tag of its own, unless its dashes are flush.
+fn is_under_tag(settings: Settings, lines: Lines, tag: Held, body: Body) -> bool
+    ensures { λ r. ⌜ r ≡ (marked (lines .marks) 8 && hasHeld tag && not (sequenceIn body && settings .indentless)) ⌝ }
+{
+    if is_tagged(lines, tag) {
+        return !is_level(settings, body);
+    }
+    false
+}
+
+// The column of a root collection's body.
+pub fn root_column(settings: Settings, lines: Lines, tag: Held, body: Body) -> usize
+    ensures { λ r. ⌜ (r ≡ rootColumnIn settings lines tag body) × (settings .indent ≤ 16 → r ≤ 16) ⌝ }
+{
+    if is_under_tag(settings, lines, tag, body) {
+        return step_of(settings);
+    }
+    0
+}
+
+fn is_tag_alone(settings: Settings, remark: Remark, anchor: Held) -> bool
+    ensures { λ r. ⌜ r ≡ (not (on (remark .present)) && not (hasHeld anchor) && isEmptyStyle (settings .«null_style»)) ⌝ }
+{
+    if remark.present != 0 {
+        return false;
+    }
+    if is_held(anchor) {
+        return false;
+    }
+    is_empty_style(settings)
+}
+
+// A root null of which only the tag is written.
+pub fn bare_root(
+    settings: Settings,
+    lines: Lines,
+    remark: Remark,
+    tag: Held,
+    anchor: Held,
+    body: Body,
+) -> bool
+    ensures { λ r. ⌜ r ≡ bareRootIn settings lines remark tag anchor body ⌝ }
+{
+    if is_null(body) {
+        if is_tagged(lines, tag) {
+            return is_tag_alone(settings, remark, anchor);
+        }
+    }
+    false
+}
+
+// The node at a cursor has comments.
+fn has_comments_at(deck: &[u8], c: Cursor) -> bool
+    requires { ⌜ (c .at ≤ length (now deck)) × (length (now deck) ≤ 65536) ⌝ }
+    ensures { λ r. ⌜ r ≡ commentsIn (spotAt (now (deck .entry)) c .lead) ⌝ }
+{
+    let x = spot::spot_at(deck, c);
+    has_comments(x.lead)
+}
+
+// Some of n nodes that stand one after another have comments.
+fn some_comments(deck: &[u8], c: Cursor, n: usize) -> bool
+    requires { ⌜ (c .at ≤ length (now deck)) × (length (now deck) ≤ 65536) ⌝ }
+    ensures { λ r. ⌜ Some (now (deck .entry)) c n r ⌝ }
+{
+    let mut here = c;
+    let mut left = n;
+    while left > 0 {
+        if has_comments_at(deck, here) {
+            return true;
+        }
+        here = node::subtree_end(deck, here);
+        left -= 1;
+    }
+    false
+}
+
+// Some of n items.
+pub fn any_comments(deck: &[u8], c: Cursor, n: usize) -> bool
+    requires { ⌜ (c .at ≤ length (now deck)) × (length (now deck) ≤ 65536) ⌝ }
+    ensures { λ r. ⌜ SomeItems (now (deck .entry)) c n r ⌝ }
+{
+    some_comments(deck, c, n)
+}
+
+// Some of n pairs.
+pub fn any_comments_in(deck: &[u8], c: Cursor, n: usize) -> bool
+    requires { ⌜ (c .at ≤ length (now deck)) × (length (now deck) ≤ 65536) × (n < 2 ^ 62) ⌝ }
+    ensures { λ r. ⌜ SomePairs (now (deck .entry)) c n r ⌝ }
+{
+    some_comments(deck, c, 2 * n)
+}
