@@ -1,8 +1,7 @@
 -- What small functions say of nodes, whatever the pool holds.
 use mathlib.Core.Path.{_≡_}
-use Prim.Native.Nat.{ℕ, _≤_}
-use mathlib.Core.Bool.{Bool, not}
-use lib.Dec.{eqb}
+use Prim.Native.Nat.{_≤_}
+use mathlib.Core.Bool.{Bool}
 use lib.ListN.{length}
 use Rattle.definition.specs.Base.{Bytes}
 use Rattle.definition.specs.Walk.{colon}
@@ -12,10 +11,6 @@ use Rattle.parts.specs.Draws.{Draws}
 use Rattle.spot.specs.declared.Body.{Body}
 use Rattle.spot.specs.Spot.{kindOf}
 use Rattle.joints.specs.Entries.{lastOf}
-
--- a mark or a depth that is not 0
-unfoldable pub on : ℕ → Bool
-on n = not (eqb n 0)
 
 -- the colon after a key
 pub record Colon (b : Body) (P P′ : Pen) : Type 0 where

@@ -18,7 +18,8 @@ ghost use Rattle.node.specs.Total.{remarkOf};
 ghost use Rattle.pen.specs.Pen.{pen, ink};
 ghost use Rattle.scripts.specs.Keep.{withFlow, withKey};
 ghost use Rattle.parts.specs.Draws.{Draws};
-ghost use Rattle.joints.specs.Told.{on, Colon, LastOf};
+ghost use Rattle.atoms.specs.Atoms.{on};
+ghost use Rattle.joints.specs.Told.{Colon, LastOf};
 ghost use Rattle.joints.specs.Entries.{nodeAt, linedBefore, linedAfter, opening, closing};
 
 pub fn with_flow(mut w: Writer, n: usize) -> Writer

@@ -3,11 +3,11 @@ use mathlib.Core.Path.{_≡_, refl, sym, ap, _∙_}
 use Prim.Native.Nat.{ℕ, zero, suc, _+_, _<_, _≤_}
 use native.Mathlib.Omega.{arith}
 use mathlib.Core.Bool.{Bool, true, false, true≢false}
-use lib.ListN.{length}
+use lib.ListN.{length, getD}
 use lib.Dec.{eqb}
 use borrow.Author.Tests.{ne-eqb, eqb-true, eqb-false}
 use Rattle.definition.specs.Base.{Bytes, if_then_else_}
-use Rattle.definition.specs.Records.{kindAt, recordOf, recordAt, sizeOf, past}
+use Rattle.definition.specs.Records.{byteAt, wordAt, groupAt, kindAt, recordOf, recordAt, sizeOf}
 use Rattle.definition.specs.Deck.{isNode, noLines}
 use Rattle.definition.specs.declared.Cursor.{Cursor}
 use Rattle.definition.specs.declared.Record.{Record}
@@ -161,3 +161,44 @@ module _ (deck : Bytes) where
         },
         o .ahead,
       )
+
+-- ---- how many members a collection has
+
+unfoldable pub countIn : Body → ℕ
+countIn body.Null = 0
+countIn (body.Scalar w) = 0
+countIn (body.Alias t) = 0
+countIn (body.Sequence g) = g .count
+countIn (body.Mapping g) = g .count
+
+module _ (deck : Bytes) (bytes : (k : ℕ) → getD deck k 0 < 256) where
+  few-group : (at : ℕ) → groupAt deck at .count < 65536
+  unfolding groupAt wordAt byteAt
+  few-group at = let x = bytes (at + 1) in let y = bytes (at + 1 + 1) in omega (arith, x, y)
+
+  choose : (b : Bool) (x y : Record) → countIn (bodyOf x) < 65536 → countIn (bodyOf y) < 65536 → countIn (bodyOf (if b then x else y)) < 65536
+  choose true x y p q = p
+  choose false x y p q = q
+
+  few-record : (k at : ℕ) → countIn (bodyOf (recordOf k deck at)) < 65536
+  unfolding recordOf bodyOf countIn
+  few-record k at =
+      let z : 0 < 65536 = omega arith in
+      choose (eqb k 0x01) _ _ z
+      (choose (eqb k 0x02) _ _ z
+      (choose (eqb k 0x03) _ _ z
+      (choose (eqb k 0x04) _ _ z
+      (choose (eqb k 0x05) _ _ z
+      (choose (eqb k 0x06) _ _ z
+      (choose (eqb k 0x07) _ _ z
+      (choose (eqb k 0x08) _ _ z
+      (choose (eqb k 0x09) _ _ z
+      (choose (eqb k 0x21) _ _ z
+      (choose (eqb k 0x22) _ _ z
+      (choose (eqb k 0x23) _ _ (few-group at)
+      (choose (eqb k 0x24) _ _ (few-group at) z))))))))))))
+
+  -- fewer than 65,536, since two bytes say it
+  pub few-at : (c : Cursor) → c .at ≤ length deck → countIn (spotAt deck c .body) < 65536
+  unfolding spotAt spotOf recordAt
+  few-at c k = let o = head-at-onward deck c k in rw (o .own) (few-record (kindAt deck (headAt deck c .place)) (headAt deck c .place .at + 1))

@@ -1,4 +1,4 @@
-use Rattle.joints.specs.Told.{on}
+use Rattle.atoms.specs.Atoms.{on}
 use Rattle.definition.specs.Pen.{nothing}
 use Rattle.pen.specs.Pen.{ink, puts}
 use borrow.Author.Needs.{needs}

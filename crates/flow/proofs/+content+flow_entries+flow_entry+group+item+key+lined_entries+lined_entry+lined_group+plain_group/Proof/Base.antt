@@ -1,0 +1,283 @@
+use lib.ListN.{length}
+use Prim.Native.Nat.{_+_, _*_, _-_}
+use Prim.Native.Nat.{ℕ, _<_}
+use borrow.Fn.Kinds.{In}
+use borrow.Fn.PlainCycle.{Measures, is, falls, and}
+use Rattle.flow.proofs.content.Reads as content
+use Rattle.flow.proofs.content.Kinds as content-kinds
+use Rattle.flow.proofs.+content+flow_entries+flow_entry+group+item+key+lined_entries+lined_entry+lined_group+plain_group.Lts-content as content-lts
+use Rattle.flow.proofs.flow_entries.Reads as flow-entries
+use Rattle.flow.proofs.flow_entries.Kinds as flow-entries-kinds
+use Rattle.flow.proofs.+content+flow_entries+flow_entry+group+item+key+lined_entries+lined_entry+lined_group+plain_group.Lts-flow_entries as flow-entries-lts
+use Rattle.flow.proofs.flow_entry.Reads as flow-entry
+use Rattle.flow.proofs.flow_entry.Kinds as flow-entry-kinds
+use Rattle.flow.proofs.+content+flow_entries+flow_entry+group+item+key+lined_entries+lined_entry+lined_group+plain_group.Lts-flow_entry as flow-entry-lts
+use Rattle.flow.proofs.group.Reads as group
+use Rattle.flow.proofs.group.Kinds as group-kinds
+use Rattle.flow.proofs.+content+flow_entries+flow_entry+group+item+key+lined_entries+lined_entry+lined_group+plain_group.Lts-group as group-lts
+use Rattle.flow.proofs.item.Reads as item
+use Rattle.flow.proofs.item.Kinds as item-kinds
+use Rattle.flow.proofs.+content+flow_entries+flow_entry+group+item+key+lined_entries+lined_entry+lined_group+plain_group.Lts-item as item-lts
+use Rattle.flow.proofs.key.Reads as key
+use Rattle.flow.proofs.key.Kinds as key-kinds
+use Rattle.flow.proofs.+content+flow_entries+flow_entry+group+item+key+lined_entries+lined_entry+lined_group+plain_group.Lts-key as key-lts
+use Rattle.flow.proofs.lined_entries.Reads as lined-entries
+use Rattle.flow.proofs.lined_entries.Kinds as lined-entries-kinds
+use Rattle.flow.proofs.+content+flow_entries+flow_entry+group+item+key+lined_entries+lined_entry+lined_group+plain_group.Lts-lined_entries as lined-entries-lts
+use Rattle.flow.proofs.lined_entry.Reads as lined-entry
+use Rattle.flow.proofs.lined_entry.Kinds as lined-entry-kinds
+use Rattle.flow.proofs.+content+flow_entries+flow_entry+group+item+key+lined_entries+lined_entry+lined_group+plain_group.Lts-lined_entry as lined-entry-lts
+use Rattle.flow.proofs.lined_group.Reads as lined-group
+use Rattle.flow.proofs.lined_group.Kinds as lined-group-kinds
+use Rattle.flow.proofs.+content+flow_entries+flow_entry+group+item+key+lined_entries+lined_entry+lined_group+plain_group.Lts-lined_group as lined-group-lts
+use Rattle.flow.proofs.plain_group.Reads as plain-group
+use Rattle.flow.proofs.plain_group.Kinds as plain-group-kinds
+use Rattle.flow.proofs.+content+flow_entries+flow_entry+group+item+key+lined_entries+lined_entry+lined_group+plain_group.Lts-plain_group as plain-group-lts
+use Rattle.atoms.proofs.put_alias.Reads as put-alias-reads
+use Rattle.atoms.proofs.put_null.Reads as put-null-reads
+use Rattle.atoms.proofs.put_words.Reads as put-words-reads
+use Rattle.choices.proofs.step_of.Reads as step-of-reads
+use Rattle.flow.proofs.back.Reads as back-reads
+use Rattle.flow.proofs.commented.Reads as commented-reads
+use Rattle.joints.proofs.closing_of.Reads as closing-of-reads
+use Rattle.joints.proofs.last_of.Reads as last-of-reads
+use Rattle.joints.proofs.opening_of.Reads as opening-of-reads
+use Rattle.joints.proofs.put_between.Reads as put-between-reads
+use Rattle.joints.proofs.put_colon.Reads as put-colon-reads
+use Rattle.joints.proofs.put_lined_after.Reads as put-lined-after-reads
+use Rattle.joints.proofs.put_lined_before.Reads as put-lined-before-reads
+use Rattle.joints.proofs.with_flow.Reads as with-flow-reads
+use Rattle.joints.proofs.with_key.Reads as with-key-reads
+use Rattle.parts.proofs.is_marked.Reads as is-marked-reads
+use Rattle.parts.proofs.put_props.Reads as put-props-reads
+use Rattle.pen.proofs.Writer.byte.Reads as byte-reads
+use Rattle.pen.proofs.Writer.spaces.Reads as spaces-reads
+use Rattle.spot.proofs.spot_at.Reads as spot-at-reads
+
+abbrev pub μ-content : Measures 3 content-kinds.ps ℕ
+μ-content κs a = 16 * (length (a .1 .0 .now) - a .1 .1 .1 .1 .1 .0 .place) + 4
+
+abbrev pub μ-flow-entries : Measures 3 flow-entries-kinds.ps ℕ
+μ-flow-entries κs a = 16 * (length (a .1 .0 .now) - a .1 .1 .1 .1 .1 .1 .1 .0 .at) + 11
+
+abbrev pub μ-flow-entry : Measures 3 flow-entry-kinds.ps ℕ
+μ-flow-entry κs a = 16 * (length (a .1 .0 .now) - a .1 .1 .1 .1 .1 .1 .0 .at) + 9
+
+abbrev pub μ-group : Measures 3 group-kinds.ps ℕ
+μ-group κs a = 16 * (length (a .1 .0 .now) - a .1 .1 .1 .1 .1 .1 .1 .1 .0) + 3
+
+abbrev pub μ-item : Measures 3 item-kinds.ps ℕ
+μ-item κs a = 16 * (length (a .1 .0 .now) - a .1 .1 .1 .1 .1 .0 .at) + 8
+
+abbrev pub μ-key : Measures 3 key-kinds.ps ℕ
+μ-key κs a = 16 * (length (a .1 .0 .now) - a .1 .1 .1 .1 .1 .0 .at) + 8
+
+abbrev pub μ-lined-entries : Measures 3 lined-entries-kinds.ps ℕ
+μ-lined-entries κs a = 16 * (length (a .1 .0 .now) - a .1 .1 .1 .1 .1 .1 .1 .0 .at) + 11
+
+abbrev pub μ-lined-entry : Measures 3 lined-entry-kinds.ps ℕ
+μ-lined-entry κs a = 16 * (length (a .1 .0 .now) - a .1 .1 .1 .1 .1 .1 .0 .at) + 10
+
+abbrev pub μ-lined-group : Measures 3 lined-group-kinds.ps ℕ
+μ-lined-group κs a = 16 * (length (a .1 .0 .now) - a .1 .1 .1 .1 .1 .1 .1 .0 .at) + 12
+
+abbrev pub μ-plain-group : Measures 3 plain-group-kinds.ps ℕ
+μ-plain-group κs a = 16 * (length (a .1 .0 .now) - a .1 .1 .1 .1 .1 .1 .1 .0 .at) + 12
+
+abbrev pub content-at : ℕ → In 3 content-kinds.ps
+content-at t = and 3 content-kinds.ps (is 3 content-kinds.ps μ-content t) content.Pre
+
+abbrev pub content-below : ℕ → In 3 content-kinds.ps
+content-below t = and 3 content-kinds.ps (falls 3 content-kinds.ps _<_ μ-content t) content.Pre
+
+abbrev pub flow-entries-at : ℕ → In 3 flow-entries-kinds.ps
+flow-entries-at t =
+    and 3 flow-entries-kinds.ps (is 3 flow-entries-kinds.ps μ-flow-entries t) flow-entries.Pre
+
+abbrev pub flow-entries-below : ℕ → In 3 flow-entries-kinds.ps
+flow-entries-below t =
+    and
+    3
+    flow-entries-kinds.ps
+    (falls 3 flow-entries-kinds.ps _<_ μ-flow-entries t)
+    flow-entries.Pre
+
+abbrev pub flow-entry-at : ℕ → In 3 flow-entry-kinds.ps
+flow-entry-at t =
+    and 3 flow-entry-kinds.ps (is 3 flow-entry-kinds.ps μ-flow-entry t) flow-entry.Pre
+
+abbrev pub flow-entry-below : ℕ → In 3 flow-entry-kinds.ps
+flow-entry-below t =
+    and 3 flow-entry-kinds.ps (falls 3 flow-entry-kinds.ps _<_ μ-flow-entry t) flow-entry.Pre
+
+abbrev pub group-at : ℕ → In 3 group-kinds.ps
+group-at t = and 3 group-kinds.ps (is 3 group-kinds.ps μ-group t) group.Pre
+
+abbrev pub group-below : ℕ → In 3 group-kinds.ps
+group-below t = and 3 group-kinds.ps (falls 3 group-kinds.ps _<_ μ-group t) group.Pre
+
+abbrev pub item-at : ℕ → In 3 item-kinds.ps
+item-at t = and 3 item-kinds.ps (is 3 item-kinds.ps μ-item t) item.Pre
+
+abbrev pub item-below : ℕ → In 3 item-kinds.ps
+item-below t = and 3 item-kinds.ps (falls 3 item-kinds.ps _<_ μ-item t) item.Pre
+
+abbrev pub key-at : ℕ → In 3 key-kinds.ps
+key-at t = and 3 key-kinds.ps (is 3 key-kinds.ps μ-key t) key.Pre
+
+abbrev pub key-below : ℕ → In 3 key-kinds.ps
+key-below t = and 3 key-kinds.ps (falls 3 key-kinds.ps _<_ μ-key t) key.Pre
+
+abbrev pub lined-entries-at : ℕ → In 3 lined-entries-kinds.ps
+lined-entries-at t =
+    and 3 lined-entries-kinds.ps (is 3 lined-entries-kinds.ps μ-lined-entries t) lined-entries.Pre
+
+abbrev pub lined-entries-below : ℕ → In 3 lined-entries-kinds.ps
+lined-entries-below t =
+    and
+    3
+    lined-entries-kinds.ps
+    (falls 3 lined-entries-kinds.ps _<_ μ-lined-entries t)
+    lined-entries.Pre
+
+abbrev pub lined-entry-at : ℕ → In 3 lined-entry-kinds.ps
+lined-entry-at t =
+    and 3 lined-entry-kinds.ps (is 3 lined-entry-kinds.ps μ-lined-entry t) lined-entry.Pre
+
+abbrev pub lined-entry-below : ℕ → In 3 lined-entry-kinds.ps
+lined-entry-below t =
+    and 3 lined-entry-kinds.ps (falls 3 lined-entry-kinds.ps _<_ μ-lined-entry t) lined-entry.Pre
+
+abbrev pub lined-group-at : ℕ → In 3 lined-group-kinds.ps
+lined-group-at t =
+    and 3 lined-group-kinds.ps (is 3 lined-group-kinds.ps μ-lined-group t) lined-group.Pre
+
+abbrev pub lined-group-below : ℕ → In 3 lined-group-kinds.ps
+lined-group-below t =
+    and 3 lined-group-kinds.ps (falls 3 lined-group-kinds.ps _<_ μ-lined-group t) lined-group.Pre
+
+abbrev pub plain-group-at : ℕ → In 3 plain-group-kinds.ps
+plain-group-at t =
+    and 3 plain-group-kinds.ps (is 3 plain-group-kinds.ps μ-plain-group t) plain-group.Pre
+
+abbrev pub plain-group-below : ℕ → In 3 plain-group-kinds.ps
+plain-group-below t =
+    and 3 plain-group-kinds.ps (falls 3 plain-group-kinds.ps _<_ μ-plain-group t) plain-group.Pre
+
+abbrev pub content-claims : ℕ → content-lts.Claims
+content-claims t = (
+  put-null-reads.Asked,
+  put-null-reads.Learnt,
+  is-marked-reads.Asked,
+  is-marked-reads.Learnt,
+  put-words-reads.Asked,
+  put-words-reads.Learnt,
+  put-alias-reads.Asked,
+  put-alias-reads.Learnt,
+  group-below t,
+  group.Post,
+)
+
+abbrev pub flow-entries-claims : ℕ → flow-entries-lts.Claims
+flow-entries-claims t = (
+  put-between-reads.Asked,
+  put-between-reads.Learnt,
+  flow-entry-below t,
+  flow-entry.Post,
+)
+
+abbrev pub flow-entry-claims : ℕ → flow-entry-lts.Claims
+flow-entry-claims t = (
+  key-below t,
+  key.Post,
+  byte-reads.Asked,
+  byte-reads.Learnt,
+  item-below t,
+  item.Post,
+)
+
+abbrev pub group-claims : ℕ → group-lts.Claims
+group-claims t = (
+  with-flow-reads.Asked,
+  with-flow-reads.Learnt,
+  step-of-reads.Asked,
+  step-of-reads.Learnt,
+  commented-reads.Asked,
+  commented-reads.Learnt,
+  lined-group-below t,
+  lined-group.Post,
+  back-reads.Asked,
+  back-reads.Learnt,
+  plain-group-below t,
+  plain-group.Post,
+)
+
+abbrev pub item-claims : ℕ → item-lts.Claims
+item-claims t = (
+  spot-at-reads.Asked,
+  spot-at-reads.Learnt,
+  put-props-reads.Asked,
+  put-props-reads.Learnt,
+  content-below t,
+  content.Post,
+)
+
+abbrev pub key-claims : ℕ → key-lts.Claims
+key-claims t = (
+  spot-at-reads.Asked,
+  spot-at-reads.Learnt,
+  put-props-reads.Asked,
+  put-props-reads.Learnt,
+  with-key-reads.Asked,
+  with-key-reads.Learnt,
+  content-below t,
+  content.Post,
+  put-colon-reads.Asked,
+  put-colon-reads.Learnt,
+)
+
+abbrev pub lined-entries-claims : ℕ → lined-entries-lts.Claims
+lined-entries-claims t = (
+  lined-entry-below t,
+  lined-entry.Post,
+)
+
+abbrev pub lined-entry-claims : ℕ → lined-entry-lts.Claims
+lined-entry-claims t = (
+  last-of-reads.Asked,
+  last-of-reads.Learnt,
+  spot-at-reads.Asked,
+  spot-at-reads.Learnt,
+  put-lined-before-reads.Asked,
+  put-lined-before-reads.Learnt,
+  flow-entry-below t,
+  flow-entry.Post,
+  put-lined-after-reads.Asked,
+  put-lined-after-reads.Learnt,
+)
+
+abbrev pub lined-group-claims : ℕ → lined-group-lts.Claims
+lined-group-claims t = (
+  opening-of-reads.Asked,
+  opening-of-reads.Learnt,
+  byte-reads.Asked,
+  byte-reads.Learnt,
+  lined-entries-below t,
+  lined-entries.Post,
+  spaces-reads.Asked,
+  spaces-reads.Learnt,
+  closing-of-reads.Asked,
+  closing-of-reads.Learnt,
+)
+
+abbrev pub plain-group-claims : ℕ → plain-group-lts.Claims
+plain-group-claims t = (
+  opening-of-reads.Asked,
+  opening-of-reads.Learnt,
+  byte-reads.Asked,
+  byte-reads.Learnt,
+  flow-entries-below t,
+  flow-entries.Post,
+  closing-of-reads.Asked,
+  closing-of-reads.Learnt,
+)

@@ -1,0 +1,95 @@
+use native.Mathlib.Omega.{arith}
+use Rattle.pen.specs.Pen.{pen}
+use Rattle.flow.specs.Ready.{after}
+use Rattle.flow.proofs.Laws.{Going, flowRuns, start, flow-step, flow-stop}
+use borrow.Author.Needs.{needs}
+use Prim.Native.Nat.{ℕ, _<_}
+use Rattle.flow.proofs.content.Reads as content
+use Rattle.flow.proofs.content.Kinds as content-kinds
+use Rattle.flow.proofs.+content+flow_entries+flow_entry+group+item+key+lined_entries+lined_entry+lined_group+plain_group.Lts-content as content-lts
+use Rattle.flow.proofs.flow_entries.Reads as flow-entries
+use Rattle.flow.proofs.flow_entries.Kinds as flow-entries-kinds
+use Rattle.flow.proofs.+content+flow_entries+flow_entry+group+item+key+lined_entries+lined_entry+lined_group+plain_group.Lts-flow_entries as flow-entries-lts
+use Rattle.flow.proofs.flow_entry.Reads as flow-entry
+use Rattle.flow.proofs.flow_entry.Kinds as flow-entry-kinds
+use Rattle.flow.proofs.+content+flow_entries+flow_entry+group+item+key+lined_entries+lined_entry+lined_group+plain_group.Lts-flow_entry as flow-entry-lts
+use Rattle.flow.proofs.group.Reads as group
+use Rattle.flow.proofs.group.Kinds as group-kinds
+use Rattle.flow.proofs.+content+flow_entries+flow_entry+group+item+key+lined_entries+lined_entry+lined_group+plain_group.Lts-group as group-lts
+use Rattle.flow.proofs.item.Reads as item
+use Rattle.flow.proofs.item.Kinds as item-kinds
+use Rattle.flow.proofs.+content+flow_entries+flow_entry+group+item+key+lined_entries+lined_entry+lined_group+plain_group.Lts-item as item-lts
+use Rattle.flow.proofs.key.Reads as key
+use Rattle.flow.proofs.key.Kinds as key-kinds
+use Rattle.flow.proofs.+content+flow_entries+flow_entry+group+item+key+lined_entries+lined_entry+lined_group+plain_group.Lts-key as key-lts
+use Rattle.flow.proofs.lined_entries.Reads as lined-entries
+use Rattle.flow.proofs.lined_entries.Kinds as lined-entries-kinds
+use Rattle.flow.proofs.+content+flow_entries+flow_entry+group+item+key+lined_entries+lined_entry+lined_group+plain_group.Lts-lined_entries as lined-entries-lts
+use Rattle.flow.proofs.lined_entry.Reads as lined-entry
+use Rattle.flow.proofs.lined_entry.Kinds as lined-entry-kinds
+use Rattle.flow.proofs.+content+flow_entries+flow_entry+group+item+key+lined_entries+lined_entry+lined_group+plain_group.Lts-lined_entry as lined-entry-lts
+use Rattle.flow.proofs.lined_group.Reads as lined-group
+use Rattle.flow.proofs.lined_group.Kinds as lined-group-kinds
+use Rattle.flow.proofs.+content+flow_entries+flow_entry+group+item+key+lined_entries+lined_entry+lined_group+plain_group.Lts-lined_group as lined-group-lts
+use Rattle.flow.proofs.plain_group.Reads as plain-group
+use Rattle.flow.proofs.plain_group.Kinds as plain-group-kinds
+use Rattle.flow.proofs.+content+flow_entries+flow_entry+group+item+key+lined_entries+lined_entry+lined_group+plain_group.Lts-plain_group as plain-group-lts
+use Rattle.atoms.proofs.put_alias.Reads as put-alias-reads
+use Rattle.atoms.proofs.put_null.Reads as put-null-reads
+use Rattle.atoms.proofs.put_words.Reads as put-words-reads
+use Rattle.choices.proofs.step_of.Reads as step-of-reads
+use Rattle.flow.proofs.back.Reads as back-reads
+use Rattle.flow.proofs.commented.Reads as commented-reads
+use Rattle.joints.proofs.closing_of.Reads as closing-of-reads
+use Rattle.joints.proofs.last_of.Reads as last-of-reads
+use Rattle.joints.proofs.opening_of.Reads as opening-of-reads
+use Rattle.joints.proofs.put_between.Reads as put-between-reads
+use Rattle.joints.proofs.put_colon.Reads as put-colon-reads
+use Rattle.joints.proofs.put_lined_after.Reads as put-lined-after-reads
+use Rattle.joints.proofs.put_lined_before.Reads as put-lined-before-reads
+use Rattle.joints.proofs.with_flow.Reads as with-flow-reads
+use Rattle.joints.proofs.with_key.Reads as with-key-reads
+use Rattle.parts.proofs.is_marked.Reads as is-marked-reads
+use Rattle.parts.proofs.put_props.Reads as put-props-reads
+use Rattle.pen.proofs.Writer.byte.Reads as byte-reads
+use Rattle.pen.proofs.Writer.spaces.Reads as spaces-reads
+use Rattle.spot.proofs.spot_at.Reads as spot-at-reads
+use Rattle.flow.proofs.+content+flow_entries+flow_entry+group+item+key+lined_entries+lined_entry+lined_group+plain_group.Proof.Base.{μ-content, μ-flow-entries, μ-flow-entry, μ-group, μ-item, μ-key, μ-lined-entries, μ-lined-entry, μ-lined-group, μ-plain-group, content-at, content-below, flow-entries-at, flow-entries-below, flow-entry-at, flow-entry-below, group-at, group-below, item-at, item-below, key-at, key-below, lined-entries-at, lined-entries-below, lined-entry-at, lined-entry-below, lined-group-at, lined-group-below, plain-group-at, plain-group-below, content-claims, flow-entries-claims, flow-entry-claims, group-claims, item-claims, key-claims, lined-entries-claims, lined-entry-claims, lined-group-claims, plain-group-claims}
+
+abbrev pub flow-entries-Inv-loop : flow-entries-lts.InvT-loop
+flow-entries-Inv-loop deck pool out₀ settings pairs n i v₀ here₀ left₀ first₀ out v here left first = Going settings deck pool i pairs (flowRuns settings deck pool i pairs (pen v₀ out₀)) (pen v₀ out₀) first₀ left₀ here₀ (pen v out) first left here
+
+abbrev pub flow-entries-μ-loop : flow-entries-lts.MeasureT-loop
+flow-entries-μ-loop deck pool out₀ settings pairs n i v₀ here₀ left₀ first₀ out v here left first = left
+
+-- src/lib.rt:239:5
+pub flow-entries-loop-holds : (t : ℕ) → flow-entries-lts.Need-loop-holds (flow-entries-claims t) (flow-entries-at t) flow-entries.Post flow-entries-Inv-loop flow-entries-μ-loop
+flow-entries-loop-holds t c = start _ _ _ _ _ _ _ _ _ _ ((c .before .before .before .pre) .1)
+
+-- src/lib.rt:240:13
+pub flow-entries-put-between-requires : (t : ℕ) → flow-entries-lts.Need-put-between-requires (flow-entries-claims t) (flow-entries-at t) flow-entries.Post flow-entries-Inv-loop flow-entries-μ-loop
+flow-entries-put-between-requires t c κs = let r = c .before .before .loop .inv .ready in let f = r .fit in let o = r .out-small in (omega (arith, f .column, o), omega (arith, o))
+
+-- src/lib.rt:241:13
+pub flow-entries-flow-entry-requires : (t : ℕ) → flow-entries-lts.Need-flow-entry-requires (flow-entries-claims t) (flow-entries-at t) flow-entries.Post flow-entries-Inv-loop flow-entries-μ-loop
+flow-entries-flow-entry-requires t c κs = let g = c .before .before .before .before .before .before .loop .inv in let r = g .ready in let q = (c .before .before .before .before .before .before .before .before .before .before .pre) .0 in (omega (arith, q, g .onward, r .here), after r _ _ _ (c .before .before .before .put-between .ensures))
+
+-- src/lib.rt:245:9
+pub flow-entries-sub-left : (t : ℕ) → flow-entries-lts.Need-sub-left (flow-entries-claims t) (flow-entries-at t) flow-entries.Post flow-entries-Inv-loop flow-entries-μ-loop
+flow-entries-sub-left t c = search needs
+
+-- src/lib.rt:239:5
+pub flow-entries-loop-less : (t : ℕ) → flow-entries-lts.Need-loop-less (flow-entries-claims t) (flow-entries-at t) flow-entries.Post flow-entries-Inv-loop flow-entries-μ-loop
+flow-entries-loop-less t c = search needs
+
+-- src/lib.rt:239:5
+pub flow-entries-loop-again : (t : ℕ) → flow-entries-lts.Need-loop-again (flow-entries-claims t) (flow-entries-at t) flow-entries.Post flow-entries-Inv-loop flow-entries-μ-loop
+flow-entries-loop-again t c = flow-step _ _ _ _ _ _ _ _ _ _ _ _ _ _ _ _ (c .before .before .before .before .before .before .before .before .before .before .before .loop .inv) (c .before .before .before .before .before .before .before .before .before .before .loop-test .taken) (c .before .before .before .before .before .before .before .before .put-between .ensures) (c .before .before .before .before .flow-entry .ensures)
+
+-- src/lib.rt:221:1
+pub flow-entries-same-length : (t : ℕ) → flow-entries-lts.Need-same-length (flow-entries-claims t) (flow-entries-at t) flow-entries.Post flow-entries-Inv-loop flow-entries-μ-loop
+flow-entries-same-length t c = c .before .loop .inv .size
+
+-- src/lib.rt:221:1
+pub flow-entries-returns : (t : ℕ) → flow-entries-lts.Need-returns (flow-entries-claims t) (flow-entries-at t) flow-entries.Post flow-entries-Inv-loop flow-entries-μ-loop
+flow-entries-returns t c = flow-stop _ _ _ _ _ _ _ _ _ _ _ _ (c .before .loop .inv) (let z = c .loop-test .left in omega arith)

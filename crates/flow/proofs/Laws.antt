@@ -1,0 +1,478 @@
+-- Laws of content on one line, for the members of the cycle.
+-- Assumes nothing.
+use mathlib.Core.Path.{_≡_, refl, sym, ap, _∙_}
+use Prim.Native.Nat.{ℕ, zero, suc, _+_, _-_, _<_, _≤_, _^_}
+use native.Mathlib.Omega.{arith}
+use mathlib.Core.Bool.{Bool, true, false, not}
+use mathlib.Core.List.{[], _∷_}
+use lib.ListN.{length, getD}
+use lib.Dec.{eqb}
+use borrow.Author.Tests.{eq-eqb, ne-eqb}
+use Rattle.definition.specs.Base.{Bytes, if_then_else_, spaces}
+use Rattle.definition.specs.Ascii.{LF, SP, '*'}
+use Rattle.definition.specs.Settings.{stepOf}
+use Rattle.definition.specs.Deck.{words, marked, layoutOf}
+use Rattle.definition.specs.Tree.{Node, place, kept, brought}
+use Rattle.definition.specs.Pen.{Script, comma, _>>_, nothing, newline, indent, sign}
+use Rattle.definition.specs.Walk.{props, inlineKey, colon, content, contentOf, replays, fresh, nullText}
+use Rattle.definition.specs.declared.Cursor.{Cursor}
+use Rattle.definition.specs.declared.Group.{Group}
+use Rattle.definition.specs.declared.Text.{Text}
+use Rattle.definition.specs.declared.Words.{Words}
+use Rattle.definition.specs.declared.Settings.{Settings}
+use Rattle.node.specs.Total.{keptOf, broughtOf, heldOf, remarkOf, treeAt}
+use Rattle.node.specs.Fuel.{tree-moves}
+use Rattle.pen.specs.declared.Writer.{Writer}
+use Rattle.pen.specs.Pen.{Pen, pen, put1, puts, ink}
+use Rattle.scripts.specs.Keep.{withFlow, withKey, ink-in-flow, ink-in-key, flow-of, key-of, length-of}
+use Rattle.parts.specs.Draws.{Draws}
+use Rattle.spot.specs.declared.Body.{Body}
+use Rattle.spot.specs.declared.Body.the-variants as body
+use Rattle.spot.specs.declared.Spot.{Spot}
+use Rattle.spot.specs.Spot.{kindOf, endOf, keptIn, broughtIn, kindIn, endIn, nodeIn, spotAt, tree-value, tree-end}
+use Rattle.spot.specs.Good.{Good, good-at, isGroup, countIn, few-at}
+use Rattle.atoms.specs.Atoms.{on, nullIn, commented, freshIn}
+use Rattle.choices.specs.Siblings.{SomeItems, SomePairs}
+use Rattle.joints.specs.Told.{Colon, LastOf}
+use Rattle.joints.specs.Entries.{nodeAt, nextAt, lastOf, entryEnd, runEnd, someComments, itemOf, keyOf, entryOf, flowRun, linedBefore, linedAfter, linedOf, isNone, linedRun, opening, closing, linedIn, plainIn, groupOf, group-items, group-pairs, items-end, pairs-end}
+use Rattle.flow.specs.Ready.{Ready, Emits, AnyComments, after, further, keyed, inside}
+
+-- ---- the marks of a pen: in flow, in a key
+
+abbrev pub F : Pen → Bool
+F P = on (P .w .flow)
+
+abbrev pub K : Pen → Bool
+K P = on (P .w .key)
+
+pub flow-kept : (t : Settings) (a : Script) (P Q : Pen) → Q ≡ ink t a P → F Q ≡ F P
+flow-kept t a P Q e = ap on (flow-of t a P Q e)
+
+pub key-kept : (t : Settings) (a : Script) (P Q : Pen) → Q ≡ ink t a P → K Q ≡ K P
+key-kept t a P Q e = ap on (key-of t a P Q e)
+
+on-more : (n : ℕ) → on (n + 1) ≡ true
+unfolding on
+on-more n = rw (ne-eqb (n + 1) 0 (λ e. absurd (omega arith)))
+
+-- a writer with a mark set, over its slice
+pub keyed-is : (w v : Writer) (n : ℕ) (out : Bytes) → v ≡ withKey n (pen w []) .w → pen v out ≡ withKey n (pen w out)
+unfolding withKey
+keyed-is w v n out e = rw e
+
+pub flowed-is : (w v : Writer) (n : ℕ) (out : Bytes) → v ≡ withFlow n (pen w []) .w → pen v out ≡ withFlow n (pen w out)
+unfolding withFlow
+flowed-is w v n out e = rw e
+
+last-is : (m : ℕ) → eqb (suc m) 1 ≡ isNone m
+unfolding isNone
+last-is zero = refl
+last-is (suc m) = ne-eqb (suc (suc m)) 1 (λ e. absurd (omega arith))
+
+-- ---- the content of a node
+
+module _ (s : Settings) (deck pool : Bytes) where
+  -- a node without children
+  leaf-emits : (x : Spot) (a : Script) {P Q : Pen} → Good deck x → endIn deck pool x ≡ x .next → Q ≡ ink s a P → Emits s a P Q (x .place) (endIn deck pool x) (x .next) (length deck)
+  leaf-emits x a g e d = record { drawn = d; next = sym e; onward = g .ahead; within = g .within }
+
+  abbrev contentIn : Pen → ℕ → Spot → Script
+  contentIn P i x = contentOf s (F P) (K P) i (x .place) (keptIn deck pool x) (broughtIn deck pool x) (kindIn deck pool x)
+
+  pub content-null :
+      (x : Spot) (i : ℕ) {P Q : Pen} → Good deck x → x .body ≡ body.Null → Q ≡ puts (nullIn s (x .lead .lines)) P
+      → Emits s (contentIn P i x) P Q (x .place) (endIn deck pool x) (x .next) (length deck)
+  unfolding ink contentOf kindOf endOf nullIn nullText keptOf layoutOf
+  content-null x i g b d = leaf-emits x _ g (rw b) (rw b d)
+
+  pub content-alias :
+      (x : Spot) (t : Text) (i : ℕ) {P Q : Pen} → Good deck x → x .body ≡ body.Alias t → Q ≡ puts ('*' ∷ words pool t) P
+      → Emits s (contentIn P i x) P Q (x .place) (endIn deck pool x) (x .next) (length deck)
+  unfolding ink contentOf kindOf endOf
+  content-alias x t i g b d = leaf-emits x _ g (rw b) (rw b d)
+
+  pub content-words :
+      (x : Spot) (t : Words) (i : ℕ) {P Q : Pen} {m : Bool} → Good deck x → x .body ≡ body.Scalar t → m ≡ marked (x .lead .lines .marks) 1
+      → Q ≡ ink s (replays (x .place) (heldOf pool (x .lead .raw)) m (freshIn (F P) (K P) i (x .place) (remarkOf pool (x .lead .remark)) (words pool (t .text)) (t .style))) P
+      → Emits s (contentIn P i x) P Q (x .place) (endIn deck pool x) (x .next) (length deck)
+  unfolding contentOf kindOf endOf keptOf broughtOf fresh freshIn commented
+  content-words x t i g b e d = leaf-emits x _ g (rw b) (rw b (rw e at d))
+
+  pub content-items :
+      (x : Spot) (g : Group) (i : ℕ) {P Q : Pen} {r : Cursor} → Good deck x → x .body ≡ body.Sequence g
+      → Emits s (groupOf deck pool s (K P) i false (g .count) (x .next)) P Q (x .next .at) (runEnd deck pool false (g .count) (x .next)) r (length deck)
+      → Emits s (contentIn P i x) P Q (x .place) (endIn deck pool x) r (length deck)
+  unfolding kindOf endOf
+  content-items x g i {P} h b e =
+      let a = h .ahead in
+      let o = e .onward in
+      record {
+        drawn = rw b (e .drawn ∙ sym (group-items deck pool s (K P) (F P) i (x .place) (keptIn deck pool x) (broughtIn deck pool x) (g .form) (g .count) (x .next) P));
+        next = rw b (e .next ∙ sym (items-end deck pool (g .count) (x .next)));
+        onward = omega (arith, a, o);
+        within = e .within;
+      }
+
+  pub content-pairs :
+      (x : Spot) (g : Group) (i : ℕ) {P Q : Pen} {r : Cursor} → Good deck x → x .body ≡ body.Mapping g
+      → Emits s (groupOf deck pool s (K P) i true (g .count) (x .next)) P Q (x .next .at) (runEnd deck pool true (g .count) (x .next)) r (length deck)
+      → Emits s (contentIn P i x) P Q (x .place) (endIn deck pool x) r (length deck)
+  unfolding kindOf endOf
+  content-pairs x g i {P} h b e =
+      let a = h .ahead in
+      let o = e .onward in
+      record {
+        drawn = rw b (e .drawn ∙ sym (group-pairs deck pool s (K P) (F P) i (x .place) (keptIn deck pool x) (broughtIn deck pool x) (g .form) (g .count) (x .next) P));
+        next = rw b (e .next ∙ sym (pairs-end deck pool (g .count) (x .next)));
+        onward = omega (arith, a, o);
+        within = e .within;
+      }
+
+  pub items-deeper : (x : Spot) (g : Group) → Good deck x → x .body ≡ body.Sequence g → x .place < x .next .at
+  unfolding isGroup
+  items-deeper x g h b = h .deeper (rw b)
+
+  pub pairs-deeper : (x : Spot) (g : Group) → Good deck x → x .body ≡ body.Mapping g → x .place < x .next .at
+  unfolding isGroup
+  pairs-deeper x g h b = h .deeper (rw b)
+
+  -- ---- a flow collection: deeper in flow, and back
+
+  module _ (i : ℕ) (pairs : Bool) (n : ℕ) (c r : Cursor) (P Q R : Pen) (C : Bool) (told : AnyComments deck pairs n c C) where
+    group-emits :
+        (a : Script) → groupOf deck pool s (K P) i pairs n c ≡ a → Emits s a (withFlow (P .w .flow + 1) P) Q (c .at) (runEnd deck pool pairs n c) r (length deck)
+        → R ≡ withFlow (P .w .flow) Q → Emits s (groupOf deck pool s (K P) i pairs n c) P R (c .at) (runEnd deck pool pairs n c) r (length deck)
+    group-emits a g e b =
+        record {
+          drawn = rw g (b ∙ ap (withFlow (P .w .flow)) (e .drawn) ∙ ink-in-flow s a (P .w .flow + 1) P);
+          next = e .next;
+          onward = e .onward;
+          within = e .within;
+        }
+
+    group-lined :
+        (j : ℕ) → C ≡ true → j ≡ i + stepOf s
+        → Emits s (linedIn deck pool s (F (withFlow (P .w .flow + 1) P)) (K (withFlow (P .w .flow + 1) P)) i j pairs n c) (withFlow (P .w .flow + 1) P) Q (c .at) (runEnd deck pool pairs n c) r (length deck)
+        → R ≡ withFlow (P .w .flow) Q → Emits s (groupOf deck pool s (K P) i pairs n c) P R (c .at) (runEnd deck pool pairs n c) r (length deck)
+    unfolding groupOf withFlow
+    group-lined j t k e b = group-emits (linedIn deck pool s true (K P) i j pairs n c) (rw (← told .told pool, t, k)) (rw (on-more (P .w .flow)) at e) b
+
+    group-plain :
+        C ≡ false
+        → Emits s (plainIn deck pool s (F (withFlow (P .w .flow + 1) P)) (K (withFlow (P .w .flow + 1) P)) i pairs n c) (withFlow (P .w .flow + 1) P) Q (c .at) (runEnd deck pool pairs n c) r (length deck)
+        → R ≡ withFlow (P .w .flow) Q → Emits s (groupOf deck pool s (K P) i pairs n c) P R (c .at) (runEnd deck pool pairs n c) r (length deck)
+    unfolding groupOf withFlow
+    group-plain t e b = group-emits (plainIn deck pool s true (K P) i pairs n c) (rw (← told .told pool, t)) (rw (on-more (P .w .flow)) at e) b
+
+  -- the same of writers: in, and out again
+  module _ (i : ℕ) (pairs : Bool) (n : ℕ) (c r r′ : Cursor) (w v x u : Writer) (out out′ : Bytes) (C : Bool) (told : AnyComments deck pairs n c C) where
+    pub group-lined-is :
+        (j : ℕ) → C ≡ true → j ≡ i + stepOf s → v ≡ withFlow (w .flow + 1) (pen w []) .w
+        → Emits s (linedIn deck pool s (on (v .flow)) (on (v .key)) i j pairs n c) (pen v out) (pen x out′) (c .at) (runEnd deck pool pairs n c) r (length deck)
+        → u ≡ withFlow (w .flow) (pen x []) .w → r′ ≡ r
+        → Emits s (groupOf deck pool s (on (w .key)) i pairs n c) (pen w out) (pen u out′) (c .at) (runEnd deck pool pairs n c) r′ (length deck)
+    group-lined-is j t k a e b q = rw q (group-lined i pairs n c r (pen w out) (pen x out′) (pen u out′) C told j t k (unfold withFlow in rw a at e) (flowed-is x u (w .flow) out′ b))
+
+    pub group-plain-is :
+        C ≡ false → v ≡ withFlow (w .flow + 1) (pen w []) .w
+        → Emits s (plainIn deck pool s (on (v .flow)) (on (v .key)) i pairs n c) (pen v out) (pen x out′) (c .at) (runEnd deck pool pairs n c) r (length deck)
+        → u ≡ withFlow (w .flow) (pen x []) .w → r′ ≡ r
+        → Emits s (groupOf deck pool s (on (w .key)) i pairs n c) (pen w out) (pen u out′) (c .at) (runEnd deck pool pairs n c) r′ (length deck)
+    group-plain-is t a e b q = rw q (group-plain i pairs n c r (pen w out) (pen x out′) (pen u out′) C told t (unfold withFlow in rw a at e) (flowed-is x u (w .flow) out′ b))
+
+  -- ---- brackets
+
+  pub lined-whole :
+      (i j : ℕ) (pairs : Bool) (n : ℕ) (c r : Cursor) (o k : ℕ) {P₀ P₁ P₂ P₃ P₄ P₅ : Pen} → o ≡ opening pairs → k ≡ closing pairs
+      → P₁ ≡ put1 P₀ o → P₂ ≡ put1 P₁ LF
+      → Emits s (linedRun deck pool s (F P₂) (K P₂) j pairs n c) P₂ P₃ (c .at) (runEnd deck pool pairs n c) r (length deck)
+      → P₄ ≡ puts (spaces i) P₃ → P₅ ≡ put1 P₄ k
+      → Emits s (linedIn deck pool s (F P₀) (K P₀) i j pairs n c) P₀ P₅ (c .at) (runEnd deck pool pairs n c) r (length deck)
+  unfolding ink linedIn sign newline indent puts put1
+  lined-whole i j pairs n c r o k {P₀} {P₁} {P₂} {P₃} x y a b e f g =
+      let d : P₃ ≡ ink s (linedRun deck pool s (F P₀) (K P₀) j pairs n c) (put1 (put1 P₀ o) LF) = e .drawn ∙ rw (b, a) in
+      record {
+        drawn = rw (← x, ← y) (g ∙ ap (λ (q : Pen). put1 q k) (f ∙ ap (puts (spaces i)) d));
+        next = e .next;
+        onward = e .onward;
+        within = e .within;
+      }
+
+  pub plain-whole :
+      (i : ℕ) (pairs : Bool) (n : ℕ) (c r : Cursor) (o k : ℕ) {P₀ P₁ P₂ P₃ : Pen} → o ≡ opening pairs → k ≡ closing pairs
+      → P₁ ≡ put1 P₀ o
+      → Emits s (flowRun deck pool s (F P₁) (K P₁) i pairs true n c) P₁ P₂ (c .at) (runEnd deck pool pairs n c) r (length deck)
+      → P₃ ≡ put1 P₂ k
+      → Emits s (plainIn deck pool s (F P₀) (K P₀) i pairs n c) P₀ P₃ (c .at) (runEnd deck pool pairs n c) r (length deck)
+  unfolding ink plainIn sign puts put1
+  plain-whole i pairs n c r o k {P₀} {P₁} {P₂} x y a e g =
+      let d : P₂ ≡ ink s (flowRun deck pool s (F P₀) (K P₀) i pairs true n c) (put1 P₀ o) = e .drawn ∙ rw a in
+      record {
+        drawn = rw (← x, ← y) (g ∙ ap (λ (q : Pen). put1 q k) d);
+        next = e .next;
+        onward = e .onward;
+        within = e .within;
+      }
+
+  -- ---- entries one after another
+
+  pub flow-turn :
+      (f k : Bool) (i : ℕ) (pairs first : Bool) (left : ℕ) (here next : Cursor) (P Q R Z : Pen) → 0 < left
+      → Q ≡ ink s (if first then nothing else comma k i) P
+      → R ≡ ink s (entryOf deck pool s f k i pairs here) Q → next ≡ entryEnd deck pool pairs here
+      → ink s (flowRun deck pool s f k i pairs first left here) P ≡ Z
+      → ink s (flowRun deck pool s f k i pairs false (left - 1) next) R ≡ Z
+  unfolding ink flowRun
+  flow-turn f k i pairs first zero here next P Q R Z l a b n h = absurd (omega arith)
+  flow-turn f k i pairs first (suc m) here next P Q R Z l a b n h = let z : suc m - 1 ≡ m = omega arith in rw (z, n, b, a) h
+
+  pub flow-done :
+      (f k : Bool) (i : ℕ) (pairs first : Bool) (left : ℕ) (here : Cursor) (P Z : Pen) → left ≡ 0 → ink s (flowRun deck pool s f k i pairs first left here) P ≡ Z → P ≡ Z
+  unfolding ink flowRun nothing puts
+  flow-done f k i pairs first left here P Z e h = rw e at h
+
+  pub lined-turn :
+      (f k : Bool) (i : ℕ) (pairs : Bool) (left : ℕ) (last : Bool) (here next : Cursor) (P Q Z : Pen) → 0 < left → last ≡ eqb left 1
+      → Q ≡ ink s (linedOf deck pool s f k i pairs last here) P → next ≡ entryEnd deck pool pairs here
+      → ink s (linedRun deck pool s f k i pairs left here) P ≡ Z
+      → ink s (linedRun deck pool s f k i pairs (left - 1) next) Q ≡ Z
+  unfolding ink linedRun
+  lined-turn f k i pairs zero last here next P Q Z l e b n h = absurd (omega arith)
+  lined-turn f k i pairs (suc m) last here next P Q Z l e b n h =
+      let z : suc m - 1 ≡ m = omega arith in
+      let y : last ≡ isNone m = e ∙ last-is m in
+      rw (z, n, b, y) h
+
+  pub lined-done : (f k : Bool) (i : ℕ) (pairs : Bool) (left : ℕ) (here : Cursor) (P Z : Pen) → left ≡ 0 → ink s (linedRun deck pool s f k i pairs left here) P ≡ Z → P ≡ Z
+  unfolding ink linedRun nothing puts
+  lined-done f k i pairs left here P Z e h = rw e at h
+
+  pub run-turn : (pairs : Bool) (left : ℕ) (here next z : Cursor) → 0 < left → next ≡ entryEnd deck pool pairs here → runEnd deck pool pairs left here ≡ z → runEnd deck pool pairs (left - 1) next ≡ z
+  unfolding runEnd
+  run-turn pairs zero here next w l n h = absurd (omega arith)
+  run-turn pairs (suc m) here next w l n h = let z : suc m - 1 ≡ m = omega arith in rw (z, n) h
+
+  pub run-done : (pairs : Bool) (left : ℕ) (here z : Cursor) → left ≡ 0 → runEnd deck pool pairs left here ≡ z → here ≡ z
+  unfolding runEnd
+  run-done pairs left here w e h = rw e at h
+
+  -- ---- one entry
+
+  pub pair-emits :
+      (i : ℕ) (pairs : Bool) (c d r : Cursor) {P₀ P₁ P₂ P₃ : Pen} → pairs ≡ true
+      → Emits s (keyOf deck pool s (F P₀) (K P₀) i (nodeAt deck pool c)) P₀ P₁ (c .at) (nextAt deck pool c) d (length deck)
+      → P₂ ≡ put1 P₁ SP
+      → Emits s (itemOf deck pool s (F P₂) (K P₂) i (nodeAt deck pool d)) P₂ P₃ (d .at) (nextAt deck pool d) r (length deck)
+      → Emits s (entryOf deck pool s (F P₀) (K P₀) i pairs c) P₀ P₃ (c .at) (entryEnd deck pool pairs c) r (length deck)
+  unfolding ink entryOf entryEnd lastOf sign puts
+  pair-emits i pairs c d r {P₀} {P₁} {P₂} t e b f =
+      let k₂ : P₂ ≡ ink s (keyOf deck pool s (F P₀) (K P₀) i (nodeAt deck pool c) >> sign SP) P₀ = b ∙ ap (λ (q : Pen). put1 q SP) (e .drawn) in
+      let a : Script = itemOf deck pool s (F P₀) (K P₀) i (nodeAt deck pool (nextAt deck pool c)) in
+      let z : ink s (itemOf deck pool s (F P₂) (K P₂) i (nodeAt deck pool d)) P₂ ≡ ink s a P₂ = let f₂ : F P₂ ≡ F P₀ = flow-kept s _ P₀ P₂ k₂ in let g₂ : K P₂ ≡ K P₀ = key-kept s _ P₀ P₂ k₂ in rw (f₂, g₂, e .next) in
+      let p = e .onward in
+      let q = f .onward in
+      record {
+        drawn = rw t (f .drawn ∙ z ∙ ap (ink s a) k₂);
+        next = rw t (f .next ∙ ap (nextAt deck pool) (e .next));
+        onward = omega (arith, p, q);
+        within = f .within;
+      }
+
+  pub item-emits :
+      (i : ℕ) (pairs : Bool) (c r : Cursor) {P Q : Pen} → pairs ≡ false
+      → Emits s (itemOf deck pool s (F P) (K P) i (nodeAt deck pool c)) P Q (c .at) (nextAt deck pool c) r (length deck)
+      → Emits s (entryOf deck pool s (F P) (K P) i pairs c) P Q (c .at) (entryEnd deck pool pairs c) r (length deck)
+  unfolding entryOf entryEnd lastOf
+  item-emits i pairs c r t e = rw t e
+
+  -- ---- the node at a cursor
+
+  pub spot-good : (c : Cursor) (x : Spot) → c .at ≤ length deck → length deck ≤ 65536 → x ≡ spotAt deck c → Good deck x × (c .at ≤ x .place) × (x .place ≤ length deck)
+  spot-good c x k b e = let g = good-at deck c k b in rw e (g .0, g .1, (let a = g .0 .ahead in let w = g .0 .within in omega (arith, a, w)))
+
+  pub item-whole :
+      (c r : Cursor) (x : Spot) (i : ℕ) {P₀ P₁ P₂ : Pen} → c .at ≤ length deck → length deck ≤ 65536 → x ≡ spotAt deck c
+      → Draws (props (broughtOf pool (x .lead))) P₀ P₁
+      → Emits s (contentIn P₁ i x) P₁ P₂ (x .place) (endIn deck pool x) r (length deck)
+      → Emits s (itemOf deck pool s (F P₀) (K P₀) i (nodeAt deck pool c)) P₀ P₂ (c .at) (nextAt deck pool c) r (length deck)
+  unfolding ink itemOf content brought nodeIn
+  item-whole c r x i {P₀} {P₁} k b e d m =
+      let g = spot-good c x k b e in
+      let o = m .onward in
+      let y = d .drawn s in
+      let z : ink s (contentIn P₁ i x) P₁ ≡ ink s (contentIn P₀ i x) P₁ = let f₁ : F P₁ ≡ F P₀ = flow-kept s _ P₀ P₁ y in let k₁ : K P₁ ≡ K P₀ = key-kept s _ P₀ P₁ y in rw (f₁, k₁) in
+      record {
+        drawn = rw (tree-value deck pool c k, ← e) (m .drawn ∙ z ∙ ap (ink s (contentIn P₀ i x)) y);
+        next = m .next ∙ rw (tree-end deck pool c k, ← e);
+        onward = omega (arith, o, g .1);
+        within = m .within;
+      }
+
+  pub key-whole :
+      (c r : Cursor) (x : Spot) (i n : ℕ) {P₀ P₁ P₂ P₃ P₄ : Pen} → c .at ≤ length deck → length deck ≤ 65536 → x ≡ spotAt deck c
+      → Draws (props (broughtOf pool (x .lead))) P₀ P₁
+      → Emits s (contentIn (withKey 1 P₁) i x) (withKey 1 P₁) P₂ (x .place) (endIn deck pool x) r (length deck)
+      → n ≡ P₀ .w .key → P₃ ≡ withKey n P₂ → Colon (x .body) P₃ P₄
+      → Emits s (keyOf deck pool s (F P₀) (K P₀) i (nodeAt deck pool c)) P₀ P₄ (c .at) (nextAt deck pool c) r (length deck)
+  unfolding ink keyOf inlineKey content brought nodeIn on
+  key-whole c r x i n {P₀} {P₁} {P₂} {P₃} k b e d m h q l =
+      let g = spot-good c x k b e in
+      let o = m .onward in
+      let y = d .drawn s in
+      let a : Script = contentOf s (F P₁) true i (x .place) (keptIn deck pool x) (broughtIn deck pool x) (kindIn deck pool x) in
+      let u : P₂ ≡ ink s a (withKey 1 P₁) = unfold withKey in m .drawn in
+      let v : P₃ ≡ ink s a P₁ = q ∙ ap (λ (m : ℕ). withKey m P₂) (h ∙ sym (key-of s _ P₀ P₁ y)) ∙ ap (withKey (P₁ .w .key)) u ∙ ink-in-key s a 1 P₁ in
+      let a₀ : Script = contentOf s (F P₀) true i (x .place) (keptIn deck pool x) (broughtIn deck pool x) (kindIn deck pool x) in
+      let z : ink s a P₁ ≡ ink s a₀ P₁ = let f₁ : F P₁ ≡ F P₀ = flow-kept s _ P₀ P₁ y in rw f₁ in
+      record {
+        drawn = rw (tree-value deck pool c k, ← e) (l .drawn deck pool (x .next) .drawn s ∙ ap (ink s (colon (kindIn deck pool x))) (v ∙ z ∙ ap (ink s a₀) y));
+        next = m .next ∙ rw (tree-end deck pool c k, ← e);
+        onward = omega (arith, o, g .1);
+        within = m .within;
+      }
+
+  pub lined-entry-whole :
+      (pairs last : Bool) (c to r : Cursor) (x : Spot) (i : ℕ) {P₀ P₁ P₂ P₃ : Pen} → LastOf deck pairs c to → x ≡ spotAt deck to
+      → Draws (linedBefore deck pool i pairs c) P₀ P₁
+      → Emits s (entryOf deck pool s (F P₁) (K P₁) i pairs c) P₁ P₂ (c .at) (entryEnd deck pool pairs c) r (length deck)
+      → Draws (linedAfter last (x .place) (remarkOf pool (x .lead .remark))) P₂ P₃
+      → Emits s (linedOf deck pool s (F P₀) (K P₀) i pairs last c) P₀ P₃ (c .at) (entryEnd deck pool pairs c) r (length deck)
+  unfolding ink linedOf place kept nodeIn keptOf
+  lined-entry-whole pairs last c to r x i {P₀} {P₁} h e d m z =
+      let y = d .drawn s in
+      let a : Script = entryOf deck pool s (F P₀) (K P₀) i pairs c in
+      let u : ink s (entryOf deck pool s (F P₁) (K P₁) i pairs c) P₁ ≡ ink s a P₁ = let f₁ : F P₁ ≡ F P₀ = flow-kept s _ P₀ P₁ y in let k₁ : K P₁ ≡ K P₀ = key-kept s _ P₀ P₁ y in rw (f₁, k₁) in
+      record {
+        drawn = rw (← h .is pool, tree-value deck pool to (h .within), ← e) (z .drawn s ∙ ap (ink s (linedAfter last (x .place) (remarkOf pool (x .lead .remark)))) (m .drawn ∙ u ∙ ap (ink s a) y));
+        next = m .next;
+        onward = m .onward;
+        within = m .within;
+      }
+
+  -- ---- ready after a byte, and with a mark set
+
+  pub after-byte : {P Q : Pen} {at i : ℕ} (b : ℕ) → Ready s deck pool P at i → Q ≡ put1 P b → Ready s deck pool Q at i
+  unfolding ink sign puts
+  after-byte b r e = after r s (sign b) _ e
+
+  pub keyed-at : (w v : Writer) (n : ℕ) (out : Bytes) {at i : ℕ} → v ≡ withKey n (pen w []) .w → Ready s deck pool (pen w out) at i → Ready s deck pool (pen v out) at i
+  keyed-at w v n out e r = rw (keyed-is w v n out e) (keyed r n)
+
+  -- inside a flow collection
+  pub group-in :
+      (w v : Writer) (out : Bytes) (at i n : ℕ) (to : ℕ) → v ≡ withFlow (w .flow + 1) (pen w []) .w → n ≡ stepOf s → Ready s deck pool (pen w out) at i → at < to → to ≤ length deck
+      → Ready s deck pool (pen v out) to (i + n)
+  group-in w v out at i n to e k r l m = rw (flowed-is w v (w .flow + 1) out e, k) (inside r to l m)
+
+  -- ---- the loops over entries: finishing from here ends as finishing from the start would
+
+  pub record Going (i : ℕ) (pairs : Bool) (run : Bool → ℕ → Cursor → Script) (P₀ : Pen) (first₀ : Bool) (left₀ : ℕ) (here₀ : Cursor) (P : Pen) (first : Bool) (left : ℕ) (here : Cursor) : Type 0 where
+    pub same : ink s (run first left here) P ≡ ink s (run first₀ left₀ here₀) P₀
+    pub flow : P .w .flow ≡ P₀ .w .flow
+    pub key : P .w .key ≡ P₀ .w .key
+    pub size : length (P .out) ≡ length (P₀ .out)
+    pub end : runEnd deck pool pairs left here ≡ runEnd deck pool pairs left₀ here₀
+    pub onward : here₀ .at ≤ here .at
+    pub ready : Ready s deck pool P (here .at) i
+
+  pub start : (i : ℕ) (pairs : Bool) (run : Bool → ℕ → Cursor → Script) (P : Pen) (first : Bool) (n : ℕ) (c : Cursor) → Ready s deck pool P (c .at) i → Going i pairs run P first n c P first n c
+  start i pairs run P first n c r = record { same = refl; flow = refl; key = refl; size = refl; end = refl; onward = omega arith; ready = r }
+
+  abbrev pub flowRuns : ℕ → Bool → Pen → Bool → ℕ → Cursor → Script
+  flowRuns i pairs P₀ first left here = flowRun deck pool s (F P₀) (K P₀) i pairs first left here
+
+  abbrev pub linedRuns : ℕ → Bool → Pen → Bool → ℕ → Cursor → Script
+  linedRuns i pairs P₀ first left here = linedRun deck pool s (F P₀) (K P₀) i pairs left here
+
+  -- one entry further
+  step :
+      (i : ℕ) (pairs : Bool) (run : Bool → ℕ → Cursor → Script) (P₀ : Pen) (first₀ : Bool) (left₀ : ℕ) (here₀ : Cursor) (P R : Pen) (first more : Bool) (left : ℕ) (here next : Cursor) (a : Script)
+      → Going i pairs run P₀ first₀ left₀ here₀ P first left here → 0 < left → R ≡ ink s a P
+      → ink s (run more (left - 1) next) R ≡ ink s (run first left here) P
+      → next ≡ entryEnd deck pool pairs here → here .at ≤ next .at → next .at ≤ length deck
+      → Going i pairs run P₀ first₀ left₀ here₀ R more (left - 1) next
+  step i pairs run P₀ first₀ left₀ here₀ P R first more left here next a g l e t n o w =
+      let p = g .onward in
+      record {
+        same = t ∙ g .same;
+        flow = flow-of s a P R e ∙ g .flow;
+        key = key-of s a P R e ∙ g .key;
+        size = length-of s a P R e ∙ g .size;
+        end = run-turn pairs left here next _ l n (g .end);
+        onward = omega (arith, p, o);
+        ready = further (after (g .ready) s a R e) (next .at) o w;
+      }
+
+  pub flow-step :
+      (i : ℕ) (pairs : Bool) (P₀ : Pen) (first₀ : Bool) (left₀ : ℕ) (here₀ : Cursor) (P Q R : Pen) (first : Bool) (left : ℕ) (here next : Cursor)
+      → Going i pairs (flowRuns i pairs P₀) P₀ first₀ left₀ here₀ P first left here → 0 < left
+      → Q ≡ ink s (if first then nothing else comma (K P) i) P
+      → Emits s (entryOf deck pool s (F Q) (K Q) i pairs here) Q R (here .at) (entryEnd deck pool pairs here) next (length deck)
+      → Going i pairs (flowRuns i pairs P₀) P₀ first₀ left₀ here₀ R false (left - 1) next
+  unfolding ink
+  flow-step i pairs P₀ first₀ left₀ here₀ P Q R first left here next g l b e =
+      let kp : K P ≡ K P₀ = ap on (g .key) in
+      let b₀ : Q ≡ ink s (if first then nothing else comma (K P₀) i) P = rw kp at b in
+      let fq : F Q ≡ F P₀ = flow-kept s _ P Q b ∙ ap on (g .flow) in
+      let kq : K Q ≡ K P₀ = key-kept s _ P Q b ∙ kp in
+      let d : R ≡ ink s (entryOf deck pool s (F P₀) (K P₀) i pairs here) Q = rw (fq, kq) at (e .drawn) in
+      step i pairs (flowRuns i pairs P₀) P₀ first₀ left₀ here₀ P R first false left here next ((if first then nothing else comma (K P₀) i) >> entryOf deck pool s (F P₀) (K P₀) i pairs here) g l
+      (d ∙ ap (ink s (entryOf deck pool s (F P₀) (K P₀) i pairs here)) b₀)
+      (flow-turn (F P₀) (K P₀) i pairs first left here next P Q R _ l b₀ d (e .next) refl)
+      (e .next) (e .onward) (e .within)
+
+  pub lined-step :
+      (i : ℕ) (pairs : Bool) (P₀ : Pen) (first₀ : Bool) (left₀ : ℕ) (here₀ : Cursor) (P R : Pen) (first : Bool) (left : ℕ) (last : Bool) (here next : Cursor)
+      → Going i pairs (linedRuns i pairs P₀) P₀ first₀ left₀ here₀ P first left here → 0 < left → last ≡ eqb left 1
+      → Emits s (linedOf deck pool s (F P) (K P) i pairs last here) P R (here .at) (entryEnd deck pool pairs here) next (length deck)
+      → Going i pairs (linedRuns i pairs P₀) P₀ first₀ left₀ here₀ R first (left - 1) next
+  lined-step i pairs P₀ first₀ left₀ here₀ P R first left last here next g l t e =
+      let fp : F P ≡ F P₀ = ap on (g .flow) in
+      let kp : K P ≡ K P₀ = ap on (g .key) in
+      let d : R ≡ ink s (linedOf deck pool s (F P₀) (K P₀) i pairs last here) P = rw (fp, kp) at (e .drawn) in
+      step i pairs (linedRuns i pairs P₀) P₀ first₀ left₀ here₀ P R first first left here next (linedOf deck pool s (F P₀) (K P₀) i pairs last here) g l d
+      (lined-turn (F P₀) (K P₀) i pairs left last here next P R _ l t d (e .next) refl)
+      (e .next) (e .onward) (e .within)
+
+  -- no entry is left
+  stop :
+      (i : ℕ) (pairs : Bool) (run : Bool → ℕ → Cursor → Script) (P₀ : Pen) (first₀ : Bool) (n : ℕ) (c : Cursor) (P : Pen) (first : Bool) (left : ℕ) (here : Cursor)
+      → Going i pairs run P₀ first₀ n c P first left here → left ≡ 0 → P ≡ ink s (run first₀ n c) P₀
+      → Emits s (run first₀ n c) P₀ P (c .at) (runEnd deck pool pairs n c) here (length deck)
+  stop i pairs run P₀ first₀ n c P first left here g z d = record { drawn = d; next = run-done pairs left here _ z (g .end); onward = g .onward; within = g .ready .here }
+
+  pub flow-stop :
+      (i : ℕ) (pairs : Bool) (P₀ : Pen) (n : ℕ) (c : Cursor) (P : Pen) (first : Bool) (left : ℕ) (here : Cursor)
+      → Going i pairs (flowRuns i pairs P₀) P₀ true n c P first left here → left ≡ 0
+      → Emits s (flowRun deck pool s (F P₀) (K P₀) i pairs true n c) P₀ P (c .at) (runEnd deck pool pairs n c) here (length deck)
+  flow-stop i pairs P₀ n c P first left here g z = stop i pairs (flowRuns i pairs P₀) P₀ true n c P first left here g z (flow-done _ _ i pairs first left here P _ z (g .same))
+
+  pub lined-stop :
+      (i : ℕ) (pairs : Bool) (P₀ : Pen) (n : ℕ) (c : Cursor) (P : Pen) (first : Bool) (left : ℕ) (here : Cursor)
+      → Going i pairs (linedRuns i pairs P₀) P₀ true n c P first left here → left ≡ 0
+      → Emits s (linedRun deck pool s (F P₀) (K P₀) i pairs n c) P₀ P (c .at) (runEnd deck pool pairs n c) here (length deck)
+  lined-stop i pairs P₀ n c P first left here g z = stop i pairs (linedRuns i pairs P₀) P₀ true n c P first left here g z (lined-done _ _ i pairs left here P _ z (g .same))
+
+  -- the slice stays as long as it was
+  pub kept-length : {a : Script} {P Q : Pen} {n : ℕ} {c r : Cursor} {l : ℕ} → Emits s a P Q n c r l → length (Q .out) ≡ length (P .out)
+  kept-length {a} {P} {Q} e = length-of s a P Q (e .drawn)
+
+-- some entries have comments
+pub some-pairs-are : (deck : Bytes) (pairs : Bool) (c : Cursor) (n : ℕ) (r : Bool) → pairs ≡ true → SomePairs deck c n r → AnyComments deck pairs n c r
+unfolding someComments
+some-pairs-are deck pairs c n r e h = record { told = λ pool. rw e (h .told pool) }
+
+pub some-items-are : (deck : Bytes) (pairs : Bool) (c : Cursor) (n : ℕ) (r : Bool) → pairs ≡ false → SomeItems deck c n r → AnyComments deck pairs n c r
+unfolding someComments
+some-items-are deck pairs c n r e h = record { told = λ pool. rw e (h .told pool) }
+
+pub few-spot : (deck : Bytes) → ((k : ℕ) → getD deck k 0 < 256) → (c : Cursor) (x : Spot) → c .at ≤ length deck → x ≡ spotAt deck c → countIn (x .body) < 65536
+few-spot deck b c x k e = rw e (few-at deck b c k)
+
+pub few-items : (x : Spot) (g : Group) → countIn (x .body) < 65536 → x .body ≡ body.Sequence g → g .count < 65536
+unfolding countIn
+few-items x g h e = rw e at h
+
+pub few-pairs : (x : Spot) (g : Group) → countIn (x .body) < 65536 → x .body ≡ body.Mapping g → g .count < 65536
+unfolding countIn
+few-pairs x g h e = rw e at h

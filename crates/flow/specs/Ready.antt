@@ -1,0 +1,123 @@
+-- What a function of the emitter asks for, and what it does.
+use mathlib.Core.Path.{_≡_, refl, sym, ap, _∙_}
+use Prim.Native.Nat.{ℕ, _+_, _-_, _*_, _<_, _≤_}
+use native.Mathlib.Omega.{arith}
+use mathlib.Core.Bool.{Bool, true, false}
+use lib.ListN.{length}
+use lib.Dec.{eqb}
+use Rattle.definition.specs.Base.{Bytes, if_then_else_}
+use Rattle.definition.specs.Settings.{stepOf}
+use Rattle.definition.specs.Pen.{Script}
+use Rattle.definition.specs.declared.Cursor.{Cursor}
+use Rattle.definition.specs.declared.Settings.{Settings}
+use Rattle.pen.specs.Pen.{Pen, ink}
+use Rattle.scripts.specs.Keep.{Fit, ink-length, ink-flow, fit-of, withFlow, withKey, with-flow-fit, with-key-fit}
+use Rattle.parts.specs.Draws.{Draws}
+use Rattle.joints.specs.Entries.{someComments}
+
+-- deck, pool and output are within their limits; from this place of the deck on, neither the indent nor the depth of flow collections can grow too
+-- large, since each level is further on in the deck
+pub record Ready (s : Settings) (deck pool : Bytes) (P : Pen) (at i : ℕ) : Type 0 where
+  pub deck-small : length deck ≤ 65536
+  pub pool-small : length pool ≤ 65536
+  pub out-small : length (P .out) ≤ 1048576
+  pub step : s .indent ≤ 16
+  pub here : at ≤ length deck
+  pub indent : i + 16 * (length deck - at) ≤ 4294967296
+  pub flow : P .w .flow + (length deck - at) ≤ 4294967296
+  pub fit : Fit P
+
+-- the script is drawn, and the cursor after it is handed back: no earlier than where it began, and in the deck
+pub record Emits (s : Settings) (a : Script) (P P′ : Pen) (start : ℕ) (after after′ : Cursor) (limit : ℕ) : Type 0 where
+  pub drawn : P′ ≡ ink s a P
+  pub next : after′ ≡ after
+  pub onward : start ≤ after′ .at
+  pub within : after′ .at ≤ limit
+
+-- whether some entries have comments, whatever the pool holds
+pub record AnyComments (deck : Bytes) (pairs : Bool) (n : ℕ) (c : Cursor) (r : Bool) : Type 0 where
+  pub told : (pool : Bytes) → r ≡ someComments deck pool pairs n c
+
+pub step-small : (s : Settings) → s .indent ≤ 16 → stepOf s ≤ 16
+unfolding stepOf
+step-small s h = go (eqb (s .indent) 0)
+  where
+    go : (b : Bool) → (if b then 2 else s .indent) ≤ 16
+    go true = omega arith
+    go false = h
+
+module _ {s : Settings} {deck pool : Bytes} where
+  -- after a script
+  pub after : {P : Pen} {at i : ℕ} → Ready s deck pool P at i → (t : Settings) (a : Script) (Q : Pen) → Q ≡ ink t a P → Ready s deck pool Q at i
+  after {P} {at} {i} r t a Q e =
+      record {
+        deck-small = r .deck-small;
+        pool-small = r .pool-small;
+        out-small = rw (ap (λ (x : Pen). length (x .out)) e, ink-length t a P) (r .out-small);
+        step = r .step;
+        here = r .here;
+        indent = r .indent;
+        flow = rw (ap (λ (x : Pen). x .w .flow) e, ink-flow t a P) (r .flow);
+        fit = fit-of t a P Q e (r .fit);
+      }
+
+  pub after-drawn : {P Q : Pen} {at i : ℕ} {a : Script} → Ready s deck pool P at i → Draws a P Q → Ready s deck pool Q at i
+  after-drawn {a = a} r d = after r s a _ (d .drawn s)
+
+  -- further on, at a smaller or the same indent
+  pub further : {P : Pen} {at i : ℕ} → Ready s deck pool P at i → (to : ℕ) → at ≤ to → to ≤ length deck → Ready s deck pool P to i
+  further r to h l =
+      record {
+        deck-small = r .deck-small;
+        pool-small = r .pool-small;
+        out-small = r .out-small;
+        step = r .step;
+        here = l;
+        indent = let x = r .indent in omega arith;
+        flow = let x = r .flow in omega arith;
+        fit = r .fit;
+      }
+
+  -- past a collection's record: one step in, and one flow collection more
+  pub inside : {P : Pen} {at i : ℕ} → Ready s deck pool P at i → (to : ℕ) → at < to → to ≤ length deck → Ready s deck pool (withFlow (P .w .flow + 1) P) to (i + stepOf s)
+  unfolding withFlow
+  inside {P} r to h l =
+      record {
+        deck-small = r .deck-small;
+        pool-small = r .pool-small;
+        out-small = r .out-small;
+        step = r .step;
+        here = l;
+        indent = let x = r .indent in let y = step-small s (r .step) in omega arith;
+        flow = let x = r .flow in omega arith;
+        fit = with-flow-fit (P .w .flow + 1) P (r .fit);
+      }
+
+  -- at an indent that is no larger
+  pub left-of : {P : Pen} {at i : ℕ} → Ready s deck pool P at i → (j : ℕ) → j ≤ i → Ready s deck pool P at j
+  left-of r j h =
+      record {
+        deck-small = r .deck-small;
+        pool-small = r .pool-small;
+        out-small = r .out-small;
+        step = r .step;
+        here = r .here;
+        indent = let x = r .indent in omega arith;
+        flow = r .flow;
+        fit = r .fit;
+      }
+
+  -- with another key mark
+  pub keyed : {P : Pen} {at i : ℕ} → Ready s deck pool P at i → (n : ℕ) → Ready s deck pool (withKey n P) at i
+  unfolding withKey
+  keyed {P} r n =
+      record {
+        deck-small = r .deck-small;
+        pool-small = r .pool-small;
+        out-small = r .out-small;
+        step = r .step;
+        here = r .here;
+        indent = r .indent;
+        flow = r .flow;
+        fit = with-key-fit n P (r .fit);
+      }

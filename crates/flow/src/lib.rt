@@ -1,0 +1,344 @@
+// The content of a node on one line: inline content, keys, flow collections. The first cycle of calls; nothing here knows of block layout.
+use definition::Cursor;
+use definition::Settings;
+use pen::Writer;
+use spot::Body;
+use spot::Spot;
+ghost use mathlib.Core.Path.{_≡_};
+ghost use Prim.Native.Nat.{_+_, _<_, _≤_, _^_};
+ghost use mathlib.Core.Bool.{true};
+ghost use mathlib.Core.List.{[]};
+ghost use lib.ListN.{length};
+ghost use Rattle.definition.specs.Walk.{contentOf};
+ghost use Rattle.pen.specs.Pen.{pen};
+ghost use Rattle.scripts.specs.Keep.{withFlow};
+ghost use Rattle.spot.specs.Spot.{keptIn, broughtIn, kindIn, endIn};
+ghost use Rattle.spot.specs.Good.{Good, countIn};
+ghost use Rattle.atoms.specs.Atoms.{on};
+ghost use Rattle.joints.specs.Entries.{nodeAt, nextAt, entryEnd, runEnd, itemOf, keyOf, entryOf, flowRun, linedOf, linedRun, linedIn, plainIn, groupOf};
+ghost use Rattle.flow.specs.Ready.{Ready, Emits, AnyComments};
+
+// The writer after something was written, and the cursor after it in the deck.
+pub struct Emitted {
+    pub w: Writer,
+    pub next: Cursor,
+}
+
+// Some entries have comments.
+fn commented(deck: &[u8], pairs: bool, c: Cursor, n: usize) -> bool
+    requires { ⌜ (c .at ≤ length (now deck)) × (length (now deck) ≤ 65536) × (n < 2 ^ 62) ⌝ }
+    ensures { λ r. ⌜ AnyComments (now (deck .entry)) pairs n c r ⌝ }
+{
+    if pairs {
+        return choices::any_comments_in(deck, c, n);
+    }
+    choices::any_comments(deck, c, n)
+}
+
+// Back at a depth of flow collections.
+fn back(e: Emitted, flow: usize) -> Emitted
+    ensures { λ r. ⌜ (r .w ≡ withFlow flow (pen (e .w) []) .w) × (r .next ≡ e .next) ⌝ }
+{
+    let v = e.w;
+    let next = e.next;
+    let w = joints::with_flow(v, flow);
+    Emitted { w, next }
+}
+
+// `emit_inline_content` of a node.
+pub fn content(
+    w: Writer,
+    deck: &[u8],
+    pool: &[u8],
+    out: &mut [u8],
+    settings: Settings,
+    x: Spot,
+    i: usize,
+) -> Emitted
+    requires { ⌜ (Ready settings (now deck) (now pool) (pen w (now out)) (x .place) i) × Good (now deck) x × (countIn (x .body) < 65536) ⌝ }
+    ensures { λ r. ⌜ Emits settings (contentOf settings (on (w .flow)) (on (w .key)) i (x .place) (keptIn (now (deck .entry)) (now (pool .entry)) x) (broughtIn (now (deck .entry)) (now (pool .entry)) x) (kindIn (now (deck .entry)) (now (pool .entry)) x)) (pen w (now (out .entry))) (pen (r .w) (now (out .exit))) (x .place) (endIn (now (deck .entry)) (now (pool .entry)) x) (r .next) (length (now (deck .entry))) ⌝ }
+{
+    let lead = x.lead;
+    let lines = lead.lines;
+    let body = x.body;
+    let next = x.next;
+    match body {
+        Body::Null => {
+            let v = atoms::put_null(w, out, settings, lines);
+            Emitted { w: v, next }
+        }
+        Body::Scalar(told) => {
+            let modified = parts::is_marked(lines.marks, 1);
+            let v = atoms::put_words(
+                w,
+                pool,
+                out,
+                settings,
+                i,
+                x.place,
+                lead.remark,
+                lead.raw,
+                modified,
+                told,
+            );
+            Emitted { w: v, next }
+        }
+        Body::Alias(t) => {
+            let v = atoms::put_alias(w, pool, out, t);
+            Emitted { w: v, next }
+        }
+        Body::Sequence(g) => group(
+            w,
+            deck,
+            pool,
+            out,
+            settings,
+            false,
+            g.count,
+            next,
+            x.place,
+            i,
+        ),
+        Body::Mapping(g) => group(
+            w,
+            deck,
+            pool,
+            out,
+            settings,
+            true,
+            g.count,
+            next,
+            x.place,
+            i,
+        ),
+    }
+}
+
+// A flow collection of n entries, whose record is at `place`: items, or pairs.
+fn group(
+    w: Writer,
+    deck: &[u8],
+    pool: &[u8],
+    out: &mut [u8],
+    settings: Settings,
+    pairs: bool,
+    n: usize,
+    c: Cursor,
+    place: usize,
+    i: usize,
+) -> Emitted
+    requires { ⌜ (Ready settings (now deck) (now pool) (pen w (now out)) place i) × (place < c .at) × (c .at ≤ length (now deck)) × (n < 65536) ⌝ }
+    ensures { λ r. ⌜ Emits settings (groupOf (now (deck .entry)) (now (pool .entry)) settings (on (w .key)) i pairs n c) (pen w (now (out .entry))) (pen (r .w) (now (out .exit))) (c .at) (runEnd (now (deck .entry)) (now (pool .entry)) pairs n c) (r .next) (length (now (deck .entry))) ⌝ }
+{
+    let flow = w.flow;
+    let v = joints::with_flow(w, flow + 1);
+    let j = i + choices::step_of(settings);
+    if commented(deck, pairs, c, n) {
+        let e = lined_group(v, deck, pool, out, settings, pairs, n, c, i, j);
+        return back(e, flow);
+    }
+    let e = plain_group(v, deck, pool, out, settings, pairs, n, c, i);
+    back(e, flow)
+}
+
+// `emit_commented_flow_sequence` and `emit_commented_flow_mapping`: each entry on a line of its own, at column j.
+fn lined_group(
+    w: Writer,
+    deck: &[u8],
+    pool: &[u8],
+    out: &mut [u8],
+    settings: Settings,
+    pairs: bool,
+    n: usize,
+    c: Cursor,
+    i: usize,
+    j: usize,
+) -> Emitted
+    requires { ⌜ (Ready settings (now deck) (now pool) (pen w (now out)) (c .at) j) × (i ≤ j) ⌝ }
+    ensures { λ r. ⌜ Emits settings (linedIn (now (deck .entry)) (now (pool .entry)) settings (on (w .flow)) (on (w .key)) i j pairs n c) (pen w (now (out .entry))) (pen (r .w) (now (out .exit))) (c .at) (runEnd (now (deck .entry)) (now (pool .entry)) pairs n c) (r .next) (length (now (deck .entry))) ⌝ }
+{
+    let w1 = w.byte(out, joints::opening_of(pairs));
+    let w2 = w1.byte(out, b'\n');
+    let e = lined_entries(w2, deck, pool, out, settings, pairs, n, c, j);
+    let v = e.w;
+    let next = e.next;
+    let v1 = v.spaces(out, i);
+    let v2 = v1.byte(out, joints::closing_of(pairs));
+    Emitted { w: v2, next }
+}
+
+// `emit_flow_sequence` and `emit_flow_mapping`.
+fn plain_group(
+    w: Writer,
+    deck: &[u8],
+    pool: &[u8],
+    out: &mut [u8],
+    settings: Settings,
+    pairs: bool,
+    n: usize,
+    c: Cursor,
+    i: usize,
+) -> Emitted
+    requires { ⌜ Ready settings (now deck) (now pool) (pen w (now out)) (c .at) i ⌝ }
+    ensures { λ r. ⌜ Emits settings (plainIn (now (deck .entry)) (now (pool .entry)) settings (on (w .flow)) (on (w .key)) i pairs n c) (pen w (now (out .entry))) (pen (r .w) (now (out .exit))) (c .at) (runEnd (now (deck .entry)) (now (pool .entry)) pairs n c) (r .next) (length (now (deck .entry))) ⌝ }
+{
+    let w1 = w.byte(out, joints::opening_of(pairs));
+    let e = flow_entries(w1, deck, pool, out, settings, pairs, n, c, i);
+    let v = e.w;
+    let next = e.next;
+    let v1 = v.byte(out, joints::closing_of(pairs));
+    Emitted { w: v1, next }
+}
+
+// The n entries from a cursor on, each on a line of its own at column i.
+fn lined_entries(
+    w: Writer,
+    deck: &[u8],
+    pool: &[u8],
+    out: &mut [u8],
+    settings: Settings,
+    pairs: bool,
+    n: usize,
+    c: Cursor,
+    i: usize,
+) -> Emitted
+    requires { ⌜ Ready settings (now deck) (now pool) (pen w (now out)) (c .at) i ⌝ }
+    ensures { λ r. ⌜ Emits settings (linedRun (now (deck .entry)) (now (pool .entry)) settings (on (w .flow)) (on (w .key)) i pairs n c) (pen w (now (out .entry))) (pen (r .w) (now (out .exit))) (c .at) (runEnd (now (deck .entry)) (now (pool .entry)) pairs n c) (r .next) (length (now (deck .entry))) ⌝ }
+{
+    let mut v = w;
+    let mut here = c;
+    let mut left = n;
+    while left > 0 {
+        let e = lined_entry(v, deck, pool, out, settings, pairs, here, i, left == 1);
+        v = e.w;
+        here = e.next;
+        left -= 1;
+    }
+    Emitted { w: v, next: here }
+}
+
+// The n entries from a cursor on, on one line.
+fn flow_entries(
+    w: Writer,
+    deck: &[u8],
+    pool: &[u8],
+    out: &mut [u8],
+    settings: Settings,
+    pairs: bool,
+    n: usize,
+    c: Cursor,
+    i: usize,
+) -> Emitted
+    requires { ⌜ Ready settings (now deck) (now pool) (pen w (now out)) (c .at) i ⌝ }
+    ensures { λ r. ⌜ Emits settings (flowRun (now (deck .entry)) (now (pool .entry)) settings (on (w .flow)) (on (w .key)) i pairs true n c) (pen w (now (out .entry))) (pen (r .w) (now (out .exit))) (c .at) (runEnd (now (deck .entry)) (now (pool .entry)) pairs n c) (r .next) (length (now (deck .entry))) ⌝ }
+{
+    let mut v = w;
+    let mut here = c;
+    let mut left = n;
+    let mut first = true;
+    while left > 0 {
+        let u = joints::put_between(v, out, settings, first, i);
+        let e = flow_entry(u, deck, pool, out, settings, pairs, here, i);
+        v = e.w;
+        here = e.next;
+        first = false;
+        left -= 1;
+    }
+    Emitted { w: v, next: here }
+}
+
+// An entry on a line of its own, the last one or not.
+fn lined_entry(
+    w: Writer,
+    deck: &[u8],
+    pool: &[u8],
+    out: &mut [u8],
+    settings: Settings,
+    pairs: bool,
+    c: Cursor,
+    i: usize,
+    last: bool,
+) -> Emitted
+    requires { ⌜ Ready settings (now deck) (now pool) (pen w (now out)) (c .at) i ⌝ }
+    ensures { λ r. ⌜ Emits settings (linedOf (now (deck .entry)) (now (pool .entry)) settings (on (w .flow)) (on (w .key)) i pairs last c) (pen w (now (out .entry))) (pen (r .w) (now (out .exit))) (c .at) (entryEnd (now (deck .entry)) (now (pool .entry)) pairs c) (r .next) (length (now (deck .entry))) ⌝ }
+{
+    let end = joints::last_of(deck, pairs, c);
+    let x = spot::spot_at(deck, end);
+    let lead = x.lead;
+    let w1 = joints::put_lined_before(w, deck, pool, out, pairs, c, end, i);
+    let e = flow_entry(w1, deck, pool, out, settings, pairs, c, i);
+    let v = e.w;
+    let next = e.next;
+    let v1 = joints::put_lined_after(v, pool, out, last, x.place, lead.remark);
+    Emitted { w: v1, next }
+}
+
+// An entry: an item, or a key and its value.
+fn flow_entry(
+    w: Writer,
+    deck: &[u8],
+    pool: &[u8],
+    out: &mut [u8],
+    settings: Settings,
+    pairs: bool,
+    c: Cursor,
+    i: usize,
+) -> Emitted
+    requires { ⌜ Ready settings (now deck) (now pool) (pen w (now out)) (c .at) i ⌝ }
+    ensures { λ r. ⌜ Emits settings (entryOf (now (deck .entry)) (now (pool .entry)) settings (on (w .flow)) (on (w .key)) i pairs c) (pen w (now (out .entry))) (pen (r .w) (now (out .exit))) (c .at) (entryEnd (now (deck .entry)) (now (pool .entry)) pairs c) (r .next) (length (now (deck .entry))) ⌝ }
+{
+    if pairs {
+        let e = key(w, deck, pool, out, settings, c, i);
+        let v = e.w;
+        let next = e.next;
+        let v1 = v.byte(out, b' ');
+        return item(v1, deck, pool, out, settings, next, i);
+    }
+    item(w, deck, pool, out, settings, c, i)
+}
+
+// `emit_key`: the key at a cursor, with its properties and its colon.
+pub fn key(
+    w: Writer,
+    deck: &[u8],
+    pool: &[u8],
+    out: &mut [u8],
+    settings: Settings,
+    c: Cursor,
+    i: usize,
+) -> Emitted
+    requires { ⌜ Ready settings (now deck) (now pool) (pen w (now out)) (c .at) i ⌝ }
+    ensures { λ r. ⌜ Emits settings (keyOf (now (deck .entry)) (now (pool .entry)) settings (on (w .flow)) (on (w .key)) i (nodeAt (now (deck .entry)) (now (pool .entry)) c)) (pen w (now (out .entry))) (pen (r .w) (now (out .exit))) (c .at) (nextAt (now (deck .entry)) (now (pool .entry)) c) (r .next) (length (now (deck .entry))) ⌝ }
+{
+    let x = spot::spot_at(deck, c);
+    let mark = w.key;
+    let lead = x.lead;
+    let w1 = parts::put_props(w, pool, out, lead);
+    let w2 = joints::with_key(w1, 1);
+    let e = content(w2, deck, pool, out, settings, x, i);
+    let u = e.w;
+    let next = e.next;
+    let v = joints::with_key(u, mark);
+    let body = x.body;
+    let v1 = joints::put_colon(v, out, body);
+    Emitted { w: v1, next }
+}
+
+// The node at a cursor, with its properties.
+pub fn item(
+    w: Writer,
+    deck: &[u8],
+    pool: &[u8],
+    out: &mut [u8],
+    settings: Settings,
+    c: Cursor,
+    i: usize,
+) -> Emitted
+    requires { ⌜ Ready settings (now deck) (now pool) (pen w (now out)) (c .at) i ⌝ }
+    ensures { λ r. ⌜ Emits settings (itemOf (now (deck .entry)) (now (pool .entry)) settings (on (w .flow)) (on (w .key)) i (nodeAt (now (deck .entry)) (now (pool .entry)) c)) (pen w (now (out .entry))) (pen (r .w) (now (out .exit))) (c .at) (nextAt (now (deck .entry)) (now (pool .entry)) c) (r .next) (length (now (deck .entry))) ⌝ }
+{
+    let x = spot::spot_at(deck, c);
+    let lead = x.lead;
+    let w1 = parts::put_props(w, pool, out, lead);
+    content(w1, deck, pool, out, settings, x, i)
+}
