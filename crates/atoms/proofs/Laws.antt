@@ -5,10 +5,9 @@ use Prim.Native.Nat.{ℕ, zero, suc, _≤_}
 use native.Mathlib.Omega.{arith}
 use mathlib.Core.Bool.{Bool, true, false, not, _&&_}
 use mathlib.Core.List.{[], _∷_}
-use lib.Dec.{eqb}
 use lib.ListN.{length, take, drop, length-drop}
 use borrow.Author.Tests.{eq-eqb, ne-eqb}
-use Rattle.definition.specs.Base.{Bytes, if_then_else_, isSome}
+use Rattle.definition.specs.Base.{Bytes}
 use Rattle.definition.specs.Ascii.{'*'}
 use Rattle.definition.specs.Scalar.{markerOf}
 use Rattle.definition.specs.Deck.{words}

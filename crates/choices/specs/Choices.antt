@@ -4,15 +4,14 @@ use Prim.Native.Nat.{ℕ, zero, suc, _+_}
 use mathlib.Core.Path.{_≡_, refl, sym}
 use native.Mathlib.Omega.{arith}
 use mathlib.Core.Bool.{Bool, true, false, not, _&&_, _||_}
-use mathlib.Core.List.{[], _∷_}
-use mathlib.Core.Option.{Option, none, some}
+use mathlib.Core.Option.{none, some}
 use lib.Dec.{eqb, leb}
 use borrow.Author.Tests.{ne-eqb}
 use Rattle.definition.specs.Base.{Bytes, if_then_else_, isNil, isSome}
 use Rattle.definition.specs.Settings.{stepOf, isEmptyStyle}
 use Rattle.definition.specs.Tree.{Node}
 use Rattle.definition.specs.Deck.{words, marked, layoutOf, sourceOf}
-use Rattle.definition.specs.Walk.{hasProps, included, isBlockStyle, isPlain, someItem, somePair, isBlockForm, isBlock, isSequence, isNull, isEmptyScalar, hasComments, needsExplicit, isExplicit, bare, valueColumn, itemColumn, onDashLine}
+use Rattle.definition.specs.Walk.{included, isBlockStyle, isPlain, someItem, somePair, isBlockForm, isBlock, isSequence, isNull, isEmptyScalar, hasComments, needsExplicit, isExplicit, bare, valueColumn, itemColumn, onDashLine}
 use Rattle.definition.specs.Document.{rootColumn, bareRoot}
 use Rattle.definition.specs.declared.Cursor.{Cursor}
 use Rattle.definition.specs.declared.Group.{Group}

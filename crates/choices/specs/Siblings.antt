@@ -1,10 +1,8 @@
 -- Whether some of the trees that stand one after another have comments.
-use Prim.Native.Nat.{ℕ, zero, suc, _+_, _*_}
-use mathlib.Core.Path.{_≡_, refl, ap}
-use native.Mathlib.Omega.{arith}
+use Prim.Native.Nat.{ℕ, zero, suc}
+use mathlib.Core.Path.{_≡_, refl}
 use mathlib.Core.Bool.{Bool, true, false, _||_}
 use Rattle.definition.specs.Base.{Bytes}
-use Rattle.definition.specs.Tree.{Node}
 use Rattle.definition.specs.Walk.{hasComments, anyComments, anyCommentsIn}
 use Rattle.definition.specs.declared.Cursor.{Cursor}
 use Rattle.deck.specs.Kids.{twice}
