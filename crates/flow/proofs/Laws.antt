@@ -69,6 +69,13 @@ unfolding isNone
 last-is zero = refl
 last-is (suc m) = ne-eqb (suc (suc m)) 1 (λ e. absurd (omega arith))
 
+pub spot-good : (deck : Bytes) (c : Cursor) (x : Spot) → c .at ≤ length deck → length deck ≤ 65536 → x ≡ spotAt deck c → Good deck x × (c .at ≤ x .place) × (x .place ≤ length deck)
+spot-good deck c x k b e = let g = good-at deck c k b in rw e (g .0, g .1, (let a = g .0 .ahead in let w = g .0 .within in omega (arith, a, w)))
+
+-- the slice stays as long as it was
+pub kept-length : (s : Settings) {a : Script} {P Q : Pen} {n : ℕ} {c r : Cursor} {l : ℕ} → Emits s a P Q n c r l → length (Q .out) ≡ length (P .out)
+kept-length s {a} {P} {Q} e = length-of s a P Q (e .drawn)
+
 -- ---- the content of a node
 
 module _ (s : Settings) (deck pool : Bytes) where
@@ -268,7 +275,7 @@ module _ (s : Settings) (deck pool : Bytes) where
   pair-emits i pairs c d r {P₀} {P₁} {P₂} t e b f =
       let k₂ : P₂ ≡ ink s (keyOf deck pool s (F P₀) (K P₀) i (nodeAt deck pool c) >> sign SP) P₀ = b ∙ ap (λ (q : Pen). put1 q SP) (e .drawn) in
       let a : Script = itemOf deck pool s (F P₀) (K P₀) i (nodeAt deck pool (nextAt deck pool c)) in
-      let z : ink s (itemOf deck pool s (F P₂) (K P₂) i (nodeAt deck pool d)) P₂ ≡ ink s a P₂ = let f₂ : F P₂ ≡ F P₀ = flow-kept s _ P₀ P₂ k₂ in let g₂ : K P₂ ≡ K P₀ = key-kept s _ P₀ P₂ k₂ in rw (f₂, g₂, e .next) in
+      let z : ink s (itemOf deck pool s (F P₂) (K P₂) i (nodeAt deck pool d)) P₂ ≡ ink s a P₂ = let f₂ : F P₂ ≡ F P₀ = flow-kept s (keyOf deck pool s (F P₀) (K P₀) i (nodeAt deck pool c) >> sign SP) P₀ P₂ k₂ in let g₂ : K P₂ ≡ K P₀ = key-kept s (keyOf deck pool s (F P₀) (K P₀) i (nodeAt deck pool c) >> sign SP) P₀ P₂ k₂ in rw (f₂, g₂, e .next) in
       let p = e .onward in
       let q = f .onward in
       record {
@@ -287,9 +294,6 @@ module _ (s : Settings) (deck pool : Bytes) where
 
   -- ---- the node at a cursor
 
-  pub spot-good : (c : Cursor) (x : Spot) → c .at ≤ length deck → length deck ≤ 65536 → x ≡ spotAt deck c → Good deck x × (c .at ≤ x .place) × (x .place ≤ length deck)
-  spot-good c x k b e = let g = good-at deck c k b in rw e (g .0, g .1, (let a = g .0 .ahead in let w = g .0 .within in omega (arith, a, w)))
-
   pub item-whole :
       (c r : Cursor) (x : Spot) (i : ℕ) {P₀ P₁ P₂ : Pen} → c .at ≤ length deck → length deck ≤ 65536 → x ≡ spotAt deck c
       → Draws (props (broughtOf pool (x .lead))) P₀ P₁
@@ -297,10 +301,10 @@ module _ (s : Settings) (deck pool : Bytes) where
       → Emits s (itemOf deck pool s (F P₀) (K P₀) i (nodeAt deck pool c)) P₀ P₂ (c .at) (nextAt deck pool c) r (length deck)
   unfolding ink itemOf content brought nodeIn
   item-whole c r x i {P₀} {P₁} k b e d m =
-      let g = spot-good c x k b e in
+      let g = spot-good deck c x k b e in
       let o = m .onward in
       let y = d .drawn s in
-      let z : ink s (contentIn P₁ i x) P₁ ≡ ink s (contentIn P₀ i x) P₁ = let f₁ : F P₁ ≡ F P₀ = flow-kept s _ P₀ P₁ y in let k₁ : K P₁ ≡ K P₀ = key-kept s _ P₀ P₁ y in rw (f₁, k₁) in
+      let z : ink s (contentIn P₁ i x) P₁ ≡ ink s (contentIn P₀ i x) P₁ = let f₁ : F P₁ ≡ F P₀ = flow-kept s (props (broughtOf pool (x .lead))) P₀ P₁ y in let k₁ : K P₁ ≡ K P₀ = key-kept s (props (broughtOf pool (x .lead))) P₀ P₁ y in rw (f₁, k₁) in
       record {
         drawn = rw (tree-value deck pool c k, ← e) (m .drawn ∙ z ∙ ap (ink s (contentIn P₀ i x)) y);
         next = m .next ∙ rw (tree-end deck pool c k, ← e);
@@ -308,7 +312,7 @@ module _ (s : Settings) (deck pool : Bytes) where
         within = m .within;
       }
 
-  pub key-whole :
+  key-whole :
       (c r : Cursor) (x : Spot) (i n : ℕ) {P₀ P₁ P₂ P₃ P₄ : Pen} → c .at ≤ length deck → length deck ≤ 65536 → x ≡ spotAt deck c
       → Draws (props (broughtOf pool (x .lead))) P₀ P₁
       → Emits s (contentIn (withKey 1 P₁) i x) (withKey 1 P₁) P₂ (x .place) (endIn deck pool x) r (length deck)
@@ -316,20 +320,32 @@ module _ (s : Settings) (deck pool : Bytes) where
       → Emits s (keyOf deck pool s (F P₀) (K P₀) i (nodeAt deck pool c)) P₀ P₄ (c .at) (nextAt deck pool c) r (length deck)
   unfolding ink keyOf inlineKey content brought nodeIn on
   key-whole c r x i n {P₀} {P₁} {P₂} {P₃} k b e d m h q l =
-      let g = spot-good c x k b e in
+      let g = spot-good deck c x k b e in
       let o = m .onward in
       let y = d .drawn s in
       let a : Script = contentOf s (F P₁) true i (x .place) (keptIn deck pool x) (broughtIn deck pool x) (kindIn deck pool x) in
       let u : P₂ ≡ ink s a (withKey 1 P₁) = unfold withKey in m .drawn in
-      let v : P₃ ≡ ink s a P₁ = q ∙ ap (λ (m : ℕ). withKey m P₂) (h ∙ sym (key-of s _ P₀ P₁ y)) ∙ ap (withKey (P₁ .w .key)) u ∙ ink-in-key s a 1 P₁ in
+      let v : P₃ ≡ ink s a P₁ = q ∙ ap (λ (m : ℕ). withKey m P₂) (h ∙ sym (key-of s (props (broughtOf pool (x .lead))) P₀ P₁ y)) ∙ ap (withKey (P₁ .w .key)) u ∙ ink-in-key s a 1 P₁ in
       let a₀ : Script = contentOf s (F P₀) true i (x .place) (keptIn deck pool x) (broughtIn deck pool x) (kindIn deck pool x) in
-      let z : ink s a P₁ ≡ ink s a₀ P₁ = let f₁ : F P₁ ≡ F P₀ = flow-kept s _ P₀ P₁ y in rw f₁ in
+      let z : ink s a P₁ ≡ ink s a₀ P₁ = let f₁ : F P₁ ≡ F P₀ = flow-kept s (props (broughtOf pool (x .lead))) P₀ P₁ y in rw f₁ in
       record {
         drawn = rw (tree-value deck pool c k, ← e) (l .drawn deck pool (x .next) .drawn s ∙ ap (ink s (colon (kindIn deck pool x))) (v ∙ z ∙ ap (ink s a₀) y));
         next = m .next ∙ rw (tree-end deck pool c k, ← e);
         onward = omega (arith, o, g .1);
         within = m .within;
       }
+
+  -- the same of writers: the key mark set, and set back
+  pub key-whole-is :
+      (c r : Cursor) (x : Spot) (i : ℕ) (w w₁ w₂ u v : Writer) (out out₁ out₂ : Bytes) {P : Pen} → c .at ≤ length deck → length deck ≤ 65536 → x ≡ spotAt deck c
+      → Draws (props (broughtOf pool (x .lead))) (pen w out) (pen w₁ out₁) → w₂ ≡ withKey 1 (pen w₁ []) .w
+      → Emits s (contentIn (pen w₂ out₁) i x) (pen w₂ out₁) (pen u out₂) (x .place) (endIn deck pool x) r (length deck)
+      → v ≡ withKey (w .key) (pen u []) .w → Colon (x .body) (pen v out₂) P
+      → Emits s (keyOf deck pool s (on (w .flow)) (on (w .key)) i (nodeAt deck pool c)) (pen w out) P (c .at) (nextAt deck pool c) r (length deck)
+  unfolding withKey
+  key-whole-is c r x i w w₁ w₂ u v out out₁ out₂ k b e d a m q l =
+      let n : Emits s (contentIn (withKey 1 (pen w₁ out₁)) i x) (withKey 1 (pen w₁ out₁)) (pen u out₂) (x .place) (endIn deck pool x) r (length deck) = rw a at m in
+      key-whole c r x i (w .key) k b e d n refl (keyed-is u v (w .key) out₂ q) l
 
   pub lined-entry-whole :
       (pairs last : Bool) (c to r : Cursor) (x : Spot) (i : ℕ) {P₀ P₁ P₂ P₃ : Pen} → LastOf deck pairs c to → x ≡ spotAt deck to
@@ -341,7 +357,7 @@ module _ (s : Settings) (deck pool : Bytes) where
   lined-entry-whole pairs last c to r x i {P₀} {P₁} h e d m z =
       let y = d .drawn s in
       let a : Script = entryOf deck pool s (F P₀) (K P₀) i pairs c in
-      let u : ink s (entryOf deck pool s (F P₁) (K P₁) i pairs c) P₁ ≡ ink s a P₁ = let f₁ : F P₁ ≡ F P₀ = flow-kept s _ P₀ P₁ y in let k₁ : K P₁ ≡ K P₀ = key-kept s _ P₀ P₁ y in rw (f₁, k₁) in
+      let u : ink s (entryOf deck pool s (F P₁) (K P₁) i pairs c) P₁ ≡ ink s a P₁ = let f₁ : F P₁ ≡ F P₀ = flow-kept s (linedBefore deck pool i pairs c) P₀ P₁ y in let k₁ : K P₁ ≡ K P₀ = key-kept s (linedBefore deck pool i pairs c) P₀ P₁ y in rw (f₁, k₁) in
       record {
         drawn = rw (← h .is pool, tree-value deck pool to (h .within), ← e) (z .drawn s ∙ ap (ink s (linedAfter last (x .place) (remarkOf pool (x .lead .remark)))) (m .drawn ∙ u ∙ ap (ink s a) y));
         next = m .next;
@@ -413,8 +429,8 @@ module _ (s : Settings) (deck pool : Bytes) where
   flow-step i pairs P₀ first₀ left₀ here₀ P Q R first left here next g l b e =
       let kp : K P ≡ K P₀ = ap on (g .key) in
       let b₀ : Q ≡ ink s (if first then nothing else comma (K P₀) i) P = rw kp at b in
-      let fq : F Q ≡ F P₀ = flow-kept s _ P Q b ∙ ap on (g .flow) in
-      let kq : K Q ≡ K P₀ = key-kept s _ P Q b ∙ kp in
+      let fq : F Q ≡ F P₀ = flow-kept s (if first then nothing else comma (K P) i) P Q b ∙ ap on (g .flow) in
+      let kq : K Q ≡ K P₀ = key-kept s (if first then nothing else comma (K P) i) P Q b ∙ kp in
       let d : R ≡ ink s (entryOf deck pool s (F P₀) (K P₀) i pairs here) Q = rw (fq, kq) at (e .drawn) in
       step i pairs (flowRuns i pairs P₀) P₀ first₀ left₀ here₀ P R first false left here next ((if first then nothing else comma (K P₀) i) >> entryOf deck pool s (F P₀) (K P₀) i pairs here) g l
       (d ∙ ap (ink s (entryOf deck pool s (F P₀) (K P₀) i pairs here)) b₀)
@@ -452,10 +468,6 @@ module _ (s : Settings) (deck pool : Bytes) where
       → Going i pairs (linedRuns i pairs P₀) P₀ true n c P first left here → left ≡ 0
       → Emits s (linedRun deck pool s (F P₀) (K P₀) i pairs n c) P₀ P (c .at) (runEnd deck pool pairs n c) here (length deck)
   lined-stop i pairs P₀ n c P first left here g z = stop i pairs (linedRuns i pairs P₀) P₀ true n c P first left here g z (lined-done _ _ i pairs left here P _ z (g .same))
-
-  -- the slice stays as long as it was
-  pub kept-length : {a : Script} {P Q : Pen} {n : ℕ} {c r : Cursor} {l : ℕ} → Emits s a P Q n c r l → length (Q .out) ≡ length (P .out)
-  kept-length {a} {P} {Q} e = length-of s a P Q (e .drawn)
 
 -- some entries have comments
 pub some-pairs-are : (deck : Bytes) (pairs : Bool) (c : Cursor) (n : ℕ) (r : Bool) → pairs ≡ true → SomePairs deck c n r → AnyComments deck pairs n c r

@@ -89,7 +89,7 @@ content-enum-known-body-3 t c = search needs
 
 -- src/lib.rt:90:30
 pub content-group-requires : (t : ℕ) → content-lts.Need-group-requires (content-claims t) (content-at t) content.Post
-content-group-requires t c κs = let r = (c .before .before .before .before .before .before .before .before .before .before .pre) .1 .0 in let g = (c .before .before .before .before .before .before .before .before .before .before .pre) .1 .1 in let q = (c .before .before .before .before .before .before .before .before .before .before .pre) .0 in (omega (arith, q), (r, items-deeper _ _ _ _ _ g (c .before .before .body3 .given .1), g .within, few-items _ _ ((c .before .before .before .before .before .before .before .before .before .before .pre) .1 .2) (c .before .before .body3 .given .1)))
+content-group-requires t c κs = let r = (c .before .before .before .before .before .before .before .before .before .before .pre) .1 .0 in let g = (c .before .before .before .before .before .before .before .before .before .before .pre) .1 .1 in let q = (c .before .before .before .before .before .before .before .before .before .before .pre) .0 in (omega (arith, q), (r, items-deeper (c .before .before .before .before .before .before .before .before .before .before .args .settings) _ (c .before .before .before .before .before .before .before .before .before .before .args .pool .now) (c .before .before .before .before .before .before .before .before .before .before .args .x) _ g (c .before .before .body3 .given .1), g .within, few-items (c .before .before .before .before .before .before .before .before .before .before .args .x) _ ((c .before .before .before .before .before .before .before .before .before .before .pre) .1 .2) (c .before .before .body3 .given .1)))
 
 -- src/lib.rt:102:23
 pub content-enum-known-body-4 : (t : ℕ) → content-lts.Need-enum-known-body-4 (content-claims t) (content-at t) content.Post
@@ -97,7 +97,7 @@ content-enum-known-body-4 t c = search needs
 
 -- src/lib.rt:102:29
 pub content-group-requires-2 : (t : ℕ) → content-lts.Need-group-requires-2 (content-claims t) (content-at t) content.Post
-content-group-requires-2 t c κs = let r = (c .before .before .before .before .before .before .before .before .before .before .pre) .1 .0 in let g = (c .before .before .before .before .before .before .before .before .before .before .pre) .1 .1 in let q = (c .before .before .before .before .before .before .before .before .before .before .pre) .0 in (omega (arith, q), (r, pairs-deeper _ _ _ _ _ g (c .before .before .body4 .given .1), g .within, few-pairs _ _ ((c .before .before .before .before .before .before .before .before .before .before .pre) .1 .2) (c .before .before .body4 .given .1)))
+content-group-requires-2 t c κs = let r = (c .before .before .before .before .before .before .before .before .before .before .pre) .1 .0 in let g = (c .before .before .before .before .before .before .before .before .before .before .pre) .1 .1 in let q = (c .before .before .before .before .before .before .before .before .before .before .pre) .0 in (omega (arith, q), (r, pairs-deeper (c .before .before .before .before .before .before .before .before .before .before .args .settings) _ (c .before .before .before .before .before .before .before .before .before .before .args .pool .now) (c .before .before .before .before .before .before .before .before .before .before .args .x) _ g (c .before .before .body4 .given .1), g .within, few-pairs (c .before .before .before .before .before .before .before .before .before .before .args .x) _ ((c .before .before .before .before .before .before .before .before .before .before .pre) .1 .2) (c .before .before .body4 .given .1)))
 
 -- src/lib.rt:49:1
 pub content-same-length : (t : ℕ) → content-lts.Need-same-length (content-claims t) (content-at t) content.Post

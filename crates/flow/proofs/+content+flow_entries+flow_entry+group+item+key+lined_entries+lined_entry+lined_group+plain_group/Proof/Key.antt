@@ -1,8 +1,8 @@
+use Rattle.flow.proofs.Laws.{spot-good, few-spot, key-whole-is, keyed-at}
 use native.Mathlib.Omega.{arith}
 use mathlib.Core.Path.{refl, ap}
 use Rattle.pen.specs.Pen.{pen}
 use Rattle.flow.specs.Ready.{after-drawn, further, keyed, after}
-use Rattle.flow.proofs.Laws.{spot-good, few-spot, key-whole, keyed-at, keyed-is}
 use borrow.Author.Needs.{needs}
 use Prim.Native.Nat.{ℕ, _<_}
 use Rattle.flow.proofs.content.Reads as content
@@ -71,7 +71,7 @@ key-with-key-requires t c κs = search needs
 
 -- src/lib.rt:318:9
 pub key-content-requires : (t : ℕ) → key-lts.Need-content-requires (key-claims t) (key-at t) key.Post
-key-content-requires t c κs = let r = (c .before .before .before .before .before .before .before .before .before .before .before .pre) .1 in let g = spot-good _ _ _ _ _ (r .here) (r .deck-small) (c .before .before .before .before .before .before .before .spot-at .ensures) in let q = (c .before .before .before .before .before .before .before .before .before .before .before .pre) .0 in (omega (arith, q, g .1, g .2), (keyed-at _ _ _ _ _ _ _ (c .before .with-key .ensures) (further (after-drawn r (c .before .before .before .before .put-props .ensures)) _ (g .1) (g .2)), g .0, few-spot _ (λ k. omega (arith, c .before .before .before .before .before .before .before .before .before .before .shared-slice-known .given k)) _ _ (r .here) (c .before .before .before .before .before .before .before .spot-at .ensures)))
+key-content-requires t c κs = let r = (c .before .before .before .before .before .before .before .before .before .before .before .pre) .1 in let g = spot-good _ _ _ (r .here) (r .deck-small) (c .before .before .before .before .before .before .before .spot-at .ensures) in let q = (c .before .before .before .before .before .before .before .before .before .before .before .pre) .0 in (omega (arith, q, g .1, g .2), (keyed-at _ _ _ _ _ _ _ (c .before .with-key .ensures) (further (after-drawn r (c .before .before .before .before .put-props .ensures)) _ (g .1) (g .2)), g .0, few-spot _ (λ k. omega (arith, c .before .before .before .before .before .before .before .before .before .before .shared-slice-known .given k)) _ _ (r .here) (c .before .before .before .before .before .before .before .spot-at .ensures)))
 
 -- src/lib.rt:321:9
 pub key-with-key-requires-2 : (t : ℕ) → key-lts.Need-with-key-requires-2 (key-claims t) (key-at t) key.Post
@@ -87,4 +87,4 @@ key-same-length t c = search needs
 
 -- src/lib.rt:301:1
 pub key-returns : (t : ℕ) → key-lts.Need-returns (key-claims t) (key-at t) key.Post
-key-returns t c = let r = (c .before .before .before .before .before .before .before .before .before .before .before .before .before .before .before .before .before .before .before .before .before .pre) .1 in key-whole _ _ _ _ _ _ _ _ (r .here) (r .deck-small) (c .before .before .before .before .before .before .before .before .before .before .before .before .before .before .before .before .before .spot-at .ensures) (c .before .before .before .before .before .before .before .before .before .before .before .before .before .before .put-props .ensures) (rw (keyed-is _ _ _ _ (c .before .before .before .before .before .before .before .before .before .before .before .with-key .ensures)) at (c .before .before .before .before .before .before .before .before .before .content .ensures)) refl (keyed-is _ _ _ _ (c .before .before .before .before .with-key2 .ensures)) (c .before .before .put-colon .ensures)
+key-returns t c = let r = (c .before .before .before .before .before .before .before .before .before .before .before .before .before .before .before .before .before .before .before .before .before .pre) .1 in key-whole-is _ _ _ _ _ _ _ _ _ _ _ _ _ _ _ (r .here) (r .deck-small) (c .before .before .before .before .before .before .before .before .before .before .before .before .before .before .before .before .before .spot-at .ensures) (c .before .before .before .before .before .before .before .before .before .before .before .before .before .before .put-props .ensures) (c .before .before .before .before .before .before .before .before .before .before .before .with-key .ensures) (c .before .before .before .before .before .before .before .before .before .content .ensures) (c .before .before .before .before .with-key2 .ensures) (c .before .before .put-colon .ensures)

@@ -86,7 +86,7 @@ lined-group-byte-requires-3 t c κs = let r = (c .before .before .before .before
 
 -- src/lib.rt:145:1
 pub lined-group-same-length : (t : ℕ) → lined-group-lts.Need-same-length (lined-group-claims t) (lined-group-at t) lined-group.Post
-lined-group-same-length t c = kept-length _ _ _ (lined-whole _ _ _ _ _ _ _ _ _ _ _ (c .before .before .before .before .before .before .before .before .before .before .before .before .before .before .before .before .before .before .before .before .before .before .opening-of .ensures) (c .before .before .before .closing-of .ensures) (c .before .before .before .before .before .before .before .before .before .before .before .before .before .before .before .before .before .before .before .before .before .byte .ensures) (c .before .before .before .before .before .before .before .before .before .before .before .before .before .before .before .before .before .byte2 .ensures) (c .before .before .before .before .before .before .before .before .before .before .before .before .before .lined-entries .ensures) (c .before .before .before .before .before .before .before .spaces .ensures) (c .before .before .byte3 .ensures))
+lined-group-same-length t c = kept-length _ (lined-whole _ _ _ _ _ _ _ _ _ _ _ (c .before .before .before .before .before .before .before .before .before .before .before .before .before .before .before .before .before .before .before .before .before .before .opening-of .ensures) (c .before .before .before .closing-of .ensures) (c .before .before .before .before .before .before .before .before .before .before .before .before .before .before .before .before .before .before .before .before .before .byte .ensures) (c .before .before .before .before .before .before .before .before .before .before .before .before .before .before .before .before .before .byte2 .ensures) (c .before .before .before .before .before .before .before .before .before .before .before .before .before .lined-entries .ensures) (c .before .before .before .before .before .before .before .spaces .ensures) (c .before .before .byte3 .ensures))
 
 -- src/lib.rt:145:1
 pub lined-group-returns : (t : ℕ) → lined-group-lts.Need-returns (lined-group-claims t) (lined-group-at t) lined-group.Post
