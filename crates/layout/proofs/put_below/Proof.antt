@@ -1,0 +1,34 @@
+use Rattle.flow.specs.Ready.{after-drawn}
+use Rattle.layout.proofs.Laws.{below-whole}
+use borrow.Author.Needs.{needs}
+use Rattle.layout.proofs.put_below.Statement.{statement}
+use Rattle.layout.proofs.put_below.Tie as tie
+use Rattle.layout.proofs.put_below.Reads as reads
+use Rattle.layout.proofs.put_below.Lts as lts
+use Rattle.flow.proofs.content.Reads as content-reads
+use Rattle.parts.proofs.put_below.Reads as put-below-reads
+use Rattle.pen.proofs.Writer.end_line.Reads as end-line-reads
+
+-- src/lib.rt:83:9
+put-below-requires : tie.Need-put-below-requires
+put-below-requires c κs = search needs
+
+-- src/lib.rt:84:9
+content-requires : tie.Need-content-requires
+content-requires c κs = let p = (c .before .before .before .before .before .before .before .before .before .pre) in (after-drawn (p .0) (c .before .before .before .put-below .ensures), p .1, p .2)
+
+-- src/lib.rt:87:9
+end-line-requires : tie.Need-end-line-requires
+end-line-requires c κs = search needs
+
+-- src/lib.rt:70:1
+same-length : tie.Need-same-length
+same-length c = search needs
+
+-- src/lib.rt:70:1
+returns : tie.Need-returns
+returns c = let p = (c .before .before .before .before .before .before .before .before .before .before .before .before .before .before .before .before .before .before .pre) in below-whole _ _ _ _ _ _ _ _ _ _ (p .3) (p .4) (c .before .before .before .before .before .before .before .before .before .before .before .before .put-below .ensures) (c .before .before .before .before .before .before .before .before .content .ensures) (c .before .before .end-line .ensures)
+
+pub put-below-spec : {M : Type 1} → statement M
+put-below-spec =
+    tie.close (tie.spec put-below-requires content-requires end-line-requires same-length returns)

@@ -1,0 +1,95 @@
+use mathlib.Core.Path.{_∙_}
+use Rattle.definition.specs.Base.{spaces}
+use Rattle.definition.specs.Pen.{space, put}
+use Rattle.flow.specs.Ready.{after-drawn}
+use Rattle.scripts.specs.Keep.{flow-of, key-of}
+use Rattle.parts.specs.Draws.{of-puts}
+use Rattle.layout.proofs.Laws.{value-bare, value-below, value-inline}
+use borrow.Author.Needs.{needs}
+use Rattle.layout.proofs.put_value.Statement.{statement}
+use Rattle.layout.proofs.put_value.Tie as tie
+use Rattle.layout.proofs.put_value.Reads as reads
+use Rattle.layout.proofs.put_value.Lts as lts
+use Rattle.choices.proofs.bare.Reads as bare-reads
+use Rattle.layout.proofs.put_below.Reads as put-below-reads
+use Rattle.layout.proofs.put_inlined.Reads as put-inlined-reads
+use Rattle.parts.proofs.is_marked.Reads as is-marked-reads
+use Rattle.parts.proofs.put_props_compact.Reads as put-props-compact-reads
+use Rattle.pen.proofs.Writer.byte.Reads as byte-reads
+use Rattle.pen.proofs.Writer.spaces.Reads as spaces-reads
+use Rattle.pen.proofs.at_least_one.Reads as at-least-one-reads
+
+-- src/lib.rt:108:8
+bare-requires : tie.Need-bare-requires
+bare-requires c κs = search needs
+
+-- src/lib.rt:109:13
+put-props-compact-requires : tie.Need-put-props-compact-requires
+put-props-compact-requires c κs = search needs
+
+-- src/lib.rt:110:13
+byte-requires : tie.Need-byte-requires
+byte-requires c κs = search needs
+
+-- src/lib.rt:111:9
+same-length : tie.Need-same-length
+same-length c = search needs
+
+-- src/lib.rt:111:9
+returns : tie.Need-returns
+returns c = value-bare _ _ _ _ _ _ ((c .before .before .before .before .before .before .before .before .before .before .before .before .before .before .before .before .pre) .1) (c .before .before .before .before .before .before .before .before .before .bare .ensures) (c .before .before .before .before .before .before .before .before .if1 .taken) (c .before .before .before .before .before .before .put-props-compact .ensures) (c .before .before .byte .ensures)
+
+-- src/lib.rt:113:8
+is-marked-requires : tie.Need-is-marked-requires
+is-marked-requires c κs = search needs
+
+-- src/lib.rt:114:9
+put-below-requires : tie.Need-put-below-requires
+put-below-requires c κs = search needs
+
+-- src/lib.rt:114:9
+same-length-2 : tie.Need-same-length-2
+same-length-2 c = search needs
+
+-- src/lib.rt:114:9
+returns-2 : tie.Need-returns-2
+returns-2 c = value-below _ _ _ _ _ _ _ _ (c .before .before .before .before .before .before .before .bare .ensures) (c .before .before .before .before .before .before .if1 .left) (c .before .before .before .before .before .is-marked .ensures) (c .before .before .before .before .if2 .taken) (c .before .before .put-below .ensures)
+
+-- src/lib.rt:116:28
+at-least-one-requires : tie.Need-at-least-one-requires
+at-least-one-requires c κs = search needs
+
+-- src/lib.rt:116:9
+spaces-requires : tie.Need-spaces-requires
+spaces-requires c κs = search needs
+
+-- src/lib.rt:117:5
+put-inlined-requires : tie.Need-put-inlined-requires
+put-inlined-requires c κs = let p = (c .before .before .before .before .before .before .before .before .before .before .before .before .before .before .before .before .pre) in let d = of-puts space _ (c .before .before .before .spaces .ensures) in let t = (c .before .before .before .before .before .before .before .before .before .before .before .before .before .before .before .before .args .settings) in (after-drawn (p .0) d, p .1, p .2, flow-of t (put space (spaces (c .before .before .before .before .at-least-one .result))) _ _ (d .drawn t) ∙ p .3, key-of t (put space (spaces (c .before .before .before .before .at-least-one .result))) _ _ (d .drawn t) ∙ p .4)
+
+-- src/lib.rt:92:1
+same-length-3 : tie.Need-same-length-3
+same-length-3 c = search needs
+
+-- src/lib.rt:92:1
+returns-3 : tie.Need-returns-3
+returns-3 c = value-inline _ _ _ _ _ _ _ _ _ (c .before .before .before .before .before .before .before .before .before .before .before .before .bare .ensures) (c .before .before .before .before .before .before .before .before .before .before .before .if1 .left) (c .before .before .before .before .before .before .before .before .before .before .is-marked .ensures) (c .before .before .before .before .before .before .before .before .before .if2 .left) (c .before .before .before .before .before .before .before .at-least-one .ensures) (c .before .before .before .before .before .before .spaces .ensures) (c .before .before .put-inlined .ensures)
+
+pub put-value-spec : {M : Type 1} → statement M
+put-value-spec =
+    tie.close
+    (tie.spec
+    bare-requires
+    put-props-compact-requires
+    byte-requires
+    same-length
+    returns
+    is-marked-requires
+    put-below-requires
+    same-length-2
+    returns-2
+    at-least-one-requires
+    spaces-requires
+    put-inlined-requires
+    same-length-3
+    returns-3)

@@ -1,0 +1,180 @@
+// What stands on a line of block layout, but for the members of a block collection.
+use definition::Cursor;
+use definition::Settings;
+use flow::Emitted;
+use pen::Writer;
+use spot::Spot;
+ghost use mathlib.Core.Path.{_≡_};
+ghost use Prim.Native.Nat.{_<_, _≤_, _^_};
+ghost use mathlib.Core.Bool.{false};
+ghost use lib.ListN.{length};
+ghost use Rattle.definition.specs.Base.{if_then_else_};
+ghost use Rattle.definition.specs.Tree.{kept};
+ghost use Rattle.definition.specs.Pen.{nothing};
+ghost use Rattle.definition.specs.Walk.{belowIntroducer, inlined, valueOf, bare, content};
+ghost use Rattle.pen.specs.Pen.{pen};
+ghost use Rattle.parts.specs.Draws.{Draws};
+ghost use Rattle.spot.specs.Spot.{keptIn, broughtIn, kindIn, nodeIn, endIn};
+ghost use Rattle.spot.specs.Good.{Good, countIn};
+ghost use Rattle.joints.specs.Entries.{nodeAt, nextAt};
+ghost use Rattle.flow.specs.Ready.{Ready, Emits};
+ghost use Rattle.layout.specs.Stretch.{before, includeAfter, keyLine};
+
+// An include's directive after `:` or `-`; the node's records are passed over.
+pub fn put_include(
+    w: Writer,
+    deck: &[u8],
+    pool: &[u8],
+    out: &mut [u8],
+    settings: Settings,
+    x: Spot,
+    c: Cursor,
+) -> Emitted
+    requires { ⌜ (length (now out) ≤ 1048576) × (c .at ≤ length (now deck)) × (x .place < 2 ^ 62) ⌝ }
+    ensures { λ r. ⌜ Emits settings (includeAfter (x .place) (keptIn (now (deck .entry)) (now (pool .entry)) x)) (pen w (now (out .entry))) (pen (r .w) (now (out .exit))) (c .at) (nextAt (now (deck .entry)) (now (pool .entry)) c) (r .next) (length (now (deck .entry))) ⌝ }
+{
+    let lead = x.lead;
+    let w1 = w.byte(out, b' ');
+    let w2 = parts::put_include_line(w1, pool, out, x.place, lead);
+    let next = node::subtree_end(deck, c);
+    Emitted { w: w2, next }
+}
+
+// Content that stands on its introducer's line, to the line's end.
+pub fn put_inlined(
+    w: Writer,
+    deck: &[u8],
+    pool: &[u8],
+    out: &mut [u8],
+    settings: Settings,
+    x: Spot,
+    i: usize,
+) -> Emitted
+    requires { ⌜ (Ready settings (now deck) (now pool) (pen w (now out)) (x .place) i) × Good (now deck) x × (countIn (x .body) < 65536) × (w .flow ≡ 0) × (w .key ≡ 0) ⌝ }
+    ensures { λ r. ⌜ Emits settings (inlined (x .place) (keptIn (now (deck .entry)) (now (pool .entry)) x) (broughtIn (now (deck .entry)) (now (pool .entry)) x) (content settings false false i (nodeIn (now (deck .entry)) (now (pool .entry)) x))) (pen w (now (out .entry))) (pen (r .w) (now (out .exit))) (x .place) (endIn (now (deck .entry)) (now (pool .entry)) x) (r .next) (length (now (deck .entry))) ⌝ }
+{
+    let lead = x.lead;
+    let w1 = parts::put_props(w, pool, out, lead);
+    let e = flow::content(w1, deck, pool, out, settings, x, i);
+    let v = e.w;
+    let next = e.next;
+    let v1 = parts::put_close(v, pool, out, x.place, lead);
+    Emitted { w: v1, next }
+}
+
+// `emit_value_below_introducer`
+fn put_below(
+    w: Writer,
+    deck: &[u8],
+    pool: &[u8],
+    out: &mut [u8],
+    settings: Settings,
+    x: Spot,
+    i: usize,
+) -> Emitted
+    requires { ⌜ (Ready settings (now deck) (now pool) (pen w (now out)) (x .place) i) × Good (now deck) x × (countIn (x .body) < 65536) × (w .flow ≡ 0) × (w .key ≡ 0) ⌝ }
+    ensures { λ r. ⌜ Emits settings (belowIntroducer (x .place) (keptIn (now (deck .entry)) (now (pool .entry)) x) (broughtIn (now (deck .entry)) (now (pool .entry)) x) i (content settings false false i (nodeIn (now (deck .entry)) (now (pool .entry)) x))) (pen w (now (out .entry))) (pen (r .w) (now (out .exit))) (x .place) (endIn (now (deck .entry)) (now (pool .entry)) x) (r .next) (length (now (deck .entry))) ⌝ }
+{
+    let lead = x.lead;
+    let w1 = parts::put_below(w, deck, pool, out, x.place, lead, i);
+    let e = flow::content(w1, deck, pool, out, settings, x, i);
+    let v = e.w;
+    let next = e.next;
+    let v1 = v.end_line(out);
+    Emitted { w: v1, next }
+}
+
+// What is no block collection after `:` or `-`.
+pub fn put_value(
+    w: Writer,
+    deck: &[u8],
+    pool: &[u8],
+    out: &mut [u8],
+    settings: Settings,
+    x: Spot,
+    i: usize,
+) -> Emitted
+    requires { ⌜ (Ready settings (now deck) (now pool) (pen w (now out)) (x .place) i) × Good (now deck) x × (countIn (x .body) < 65536) × (w .flow ≡ 0) × (w .key ≡ 0) ⌝ }
+    ensures { λ r. ⌜ Emits settings (valueOf (bare settings (keptIn (now (deck .entry)) (now (pool .entry)) x) (kindIn (now (deck .entry)) (now (pool .entry)) x)) (x .place) (keptIn (now (deck .entry)) (now (pool .entry)) x) (broughtIn (now (deck .entry)) (now (pool .entry)) x) i (content settings false false i (nodeIn (now (deck .entry)) (now (pool .entry)) x))) (pen w (now (out .entry))) (pen (r .w) (now (out .exit))) (x .place) (endIn (now (deck .entry)) (now (pool .entry)) x) (r .next) (length (now (deck .entry))) ⌝ }
+{
+    let lead = x.lead;
+    let lines = lead.lines;
+    let body = x.body;
+    let next = x.next;
+    if choices::bare(settings, pool, lines, lead.remark, body) {
+        let w1 = parts::put_props_compact(w, pool, out, lead);
+        let w2 = w1.byte(out, b'\n');
+        return Emitted { w: w2, next };
+    }
+    if parts::is_marked(lines.marks, 2) {
+        return put_below(w, deck, pool, out, settings, x, i);
+    }
+    let w1 = w.spaces(out, pen::at_least_one(lines.pad));
+    put_inlined(w1, deck, pool, out, settings, x, i)
+}
+
+// A key after `?` that stands on its line.
+pub fn put_key_line(
+    w: Writer,
+    deck: &[u8],
+    pool: &[u8],
+    out: &mut [u8],
+    settings: Settings,
+    x: Spot,
+    i: usize,
+) -> Emitted
+    requires { ⌜ (Ready settings (now deck) (now pool) (pen w (now out)) (x .place) i) × Good (now deck) x × (countIn (x .body) < 65536) × (w .flow ≡ 0) × (w .key ≡ 0) ⌝ }
+    ensures { λ r. ⌜ Emits settings (keyLine settings i (broughtIn (now (deck .entry)) (now (pool .entry)) x) (nodeIn (now (deck .entry)) (now (pool .entry)) x)) (pen w (now (out .entry))) (pen (r .w) (now (out .exit))) (x .place) (endIn (now (deck .entry)) (now (pool .entry)) x) (r .next) (length (now (deck .entry))) ⌝ }
+{
+    let lead = x.lead;
+    let w1 = w.byte(out, b' ');
+    let w2 = parts::put_props(w1, pool, out, lead);
+    let w3 = joints::with_key(w2, 1);
+    let e = flow::content(w3, deck, pool, out, settings, x, i);
+    let u = e.w;
+    let next = e.next;
+    let v = joints::with_key(u, 0);
+    let v1 = v.end_line(out);
+    Emitted { w: v1, next }
+}
+
+// What stands before an item or a pair.
+fn put_before_at(
+    w: Writer,
+    deck: &[u8],
+    pool: &[u8],
+    out: &mut [u8],
+    pairs: bool,
+    c: Cursor,
+    i: usize,
+) -> Writer
+    requires { ⌜ (length (now out) < 2 ^ 62) × (c .at ≤ length (now deck)) × (length (now deck) ≤ 65536) ⌝ }
+    ensures { λ r. ⌜ Draws (before pairs (kept (nodeAt (now (deck .entry)) (now (pool .entry)) c)) i) (pen w (now (out .entry))) (pen r (now (out .exit))) ⌝ }
+{
+    let x = spot::spot_at(deck, c);
+    let lead = x.lead;
+    if pairs {
+        return parts::put_before_key(w, deck, pool, out, lead, i);
+    }
+    parts::put_before_item(w, deck, pool, out, lead, i)
+}
+
+// The same, unless its line is begun already.
+pub fn put_before(
+    w: Writer,
+    deck: &[u8],
+    pool: &[u8],
+    out: &mut [u8],
+    pairs: bool,
+    c: Cursor,
+    i: usize,
+    lead: bool,
+) -> Writer
+    requires { ⌜ (length (now out) < 2 ^ 62) × (c .at ≤ length (now deck)) × (length (now deck) ≤ 65536) ⌝ }
+    ensures { λ r. ⌜ Draws (if lead then before pairs (kept (nodeAt (now (deck .entry)) (now (pool .entry)) c)) i else nothing) (pen w (now (out .entry))) (pen r (now (out .exit))) ⌝ }
+{
+    if lead {
+        return put_before_at(w, deck, pool, out, pairs, c, i);
+    }
+    w
+}
