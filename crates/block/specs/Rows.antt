@@ -3,16 +3,18 @@ use mathlib.Core.Path.{_≡_, refl, sym, ap, _∙_}
 use Prim.Native.Nat.{ℕ, zero, suc, _+_}
 use mathlib.Core.Bool.{Bool, true, false}
 use Rattle.definition.specs.Base.{Bytes, if_then_else_}
-use Rattle.definition.specs.Ascii.{SP, '?', ':'}
-use Rattle.definition.specs.Settings.{stepOf}
-use Rattle.definition.specs.Tree.{Kept, Brought, Node, node, kept}
-use Rattle.definition.specs.Pen.{Script, endLine, _>>_, nothing, newline, indent, sign}
-use Rattle.definition.specs.Walk.{props, propsCompact, isBlock, isExplicit, inlineKey, includeLine, content, value, dash, keyBelow, members, blockItems, blockPairs}
+use Rattle.definition.specs.Ascii.{'?', ':'}
+use Rattle.definition.specs.Tree.{Node, kept}
+use Rattle.definition.specs.Pen.{Script, _>>_, nothing, indent, sign}
+use Rattle.definition.specs.Walk.{foots, isExplicit, inlineKey, content, dashCompact, itemColumn, onDashLine, value, dash, keyBelow, members, blockItems, blockPairs}
 use Rattle.definition.specs.declared.Cursor.{Cursor}
 use Rattle.definition.specs.declared.Settings.{Settings}
 use Rattle.node.specs.Total.{itemsFrom, pairsFrom, treeAt}
 use Rattle.pen.specs.Pen.{Pen, puts, ink}
-use Rattle.parts.specs.Lines.{beforeItem, beforeKey}
+use Rattle.parts.specs.Draws.{Draws}
+use Rattle.parts.specs.Lines.{beforeItem, beforeKey, colonOpen, dashOpen}
+use Rattle.spot.specs.declared.Spot.{Spot}
+use Rattle.spot.specs.Spot.{keptIn, broughtIn, kindIn}
 use Rattle.layout.specs.Stretch.{before}
 use Rattle.joints.specs.Entries.{nodeAt, nextAt, lastOf, entryEnd}
 
@@ -52,3 +54,29 @@ module _ (s : Settings) where
     unfolding ink blockPairs pairsFrom rows rowOf pairRow keyPart explicitKey entryEnd lastOf before beforeKey
     rows-pairs i lead first zero c p = refl
     rows-pairs i lead first (suc n) c p = rows-pairs i true false n (nextAt deck pool (nextAt deck pool c)) _
+
+module _ (deck pool : Bytes) where
+  -- a block collection below its introducer: what stands before its members, and the whole with its foot comments at column k
+  unfoldable pub openingOf : Bool → Spot → ℕ → Script
+  openingOf true x j = dashOpen (x .place) (keptIn deck pool x) (broughtIn deck pool x) j
+  openingOf false x j = colonOpen (x .place) (keptIn deck pool x) (broughtIn deck pool x) j
+
+  -- the foot comments of a node, after what was emitted of it
+  pub record Footed (x : Spot) (k : ℕ) (P P′ : Pen) (c c′ : Cursor) : Type 0 where
+    pub drawn : Draws (foots (keptIn deck pool x) k) P P′
+    pub next : c′ ≡ c
+
+module _ (s : Settings) (deck pool : Bytes) where
+  unfoldable pub underOf : Bool → Spot → ℕ → ℕ → Script
+  underOf dashed x j k = openingOf deck pool dashed x j >> members s j true (kindIn deck pool x) >> foots (keptIn deck pool x) k
+
+  -- a block collection after a dash at column i
+  unfoldable pub dashIn : ℕ → Spot → Script
+  dashIn i x =
+      if onDashLine s (keptIn deck pool x) (broughtIn deck pool x) (kindIn deck pool x) then dashCompact (keptIn deck pool x) (i + 2) (members s (i + 2) false (kindIn deck pool x))
+      else underOf true x (itemColumn s (broughtIn deck pool x) i (kindIn deck pool x)) (i + 2)
+
+-- the colon of an explicit key
+pub record Coloned (i : ℕ) (P P′ : Pen) (c c′ : Cursor) : Type 0 where
+  pub drawn : Draws (indent i >> sign ':') P P′
+  pub next : c′ ≡ c

@@ -1,1 +1,296 @@
-// under way
+// Nodes on lines of their own: block values, items, mappings, sequences. The second cycle of calls, above the one of content on one line.
+use definition::Cursor;
+use definition::Settings;
+use flow::Emitted;
+use parts::Entries;
+use pen::Writer;
+use spot::Body;
+use spot::Spot;
+ghost use mathlib.Core.Path.{_≡_};
+ghost use Prim.Native.Nat.{_<_, _^_};
+ghost use mathlib.Core.Bool.{true, false};
+ghost use lib.ListN.{length};
+ghost use Rattle.definition.specs.Walk.{value, dash, keyBelow, members};
+ghost use Rattle.pen.specs.Pen.{pen};
+ghost use Rattle.parts.specs.Draws.{Draws};
+ghost use Rattle.parts.specs.Runs.{Short};
+ghost use Rattle.spot.specs.Spot.{kindIn, nodeIn, endIn};
+ghost use Rattle.spot.specs.Good.{Good, countIn};
+ghost use Rattle.choices.specs.Choices.{blockIn};
+ghost use Rattle.joints.specs.Entries.{nodeAt, nextAt, entryEnd, runEnd};
+ghost use Rattle.flow.specs.Ready.{Emits};
+ghost use Rattle.layout.specs.Calm.{Calm};
+ghost use Rattle.block.specs.Rows.{openingOf, underOf, dashIn, Footed, Coloned, keyPart, rowOf, rows};
+
+// What stands between the introducer and the members of a block collection below it.
+fn put_opening(
+    w: Writer,
+    deck: &[u8],
+    pool: &[u8],
+    out: &mut [u8],
+    x: Spot,
+    j: usize,
+    dashed: bool,
+) -> Writer
+    requires { ⌜ (length (now out) < 2 ^ 62) × (x .place < 2 ^ 62) × Short (x .lead) ⌝ }
+    ensures { λ r. ⌜ Draws (openingOf (now (deck .entry)) (now (pool .entry)) dashed x j) (pen w (now (out .entry))) (pen r (now (out .exit))) ⌝ }
+{
+    let lead = x.lead;
+    if dashed {
+        return parts::put_dash_block(w, deck, pool, out, x.place, lead, j);
+    }
+    parts::put_colon_block(w, deck, pool, out, x.place, lead, j)
+}
+
+// The foot comments of a node after what was emitted of it.
+fn with_foots(e: Emitted, deck: &[u8], pool: &[u8], out: &mut [u8], x: Spot, k: usize) -> Emitted
+    requires { ⌜ (length (now out) < 2 ^ 62) × Short (x .lead) ⌝ }
+    ensures { λ r. ⌜ Footed (now (deck .entry)) (now (pool .entry)) x k (pen (e .w) (now (out .entry))) (pen (r .w) (now (out .exit))) (e .next) (r .next) ⌝ }
+{
+    let lead = x.lead;
+    let v = e.w;
+    let next = e.next;
+    let w = parts::put_repeated(v, deck, pool, out, lead, Entries::Foots, k);
+    Emitted { w, next }
+}
+
+// The colon of an explicit key, at column i.
+fn with_colon(e: Emitted, out: &mut [u8], i: usize) -> Emitted
+    requires { ⌜ length (now out) < 2 ^ 62 ⌝ }
+    ensures { λ r. ⌜ Coloned i (pen (e .w) (now (out .entry))) (pen (r .w) (now (out .exit))) (e .next) (r .next) ⌝ }
+{
+    let v = e.w;
+    let next = e.next;
+    let v1 = v.spaces(out, i);
+    let w = v1.byte(out, b':');
+    Emitted { w, next }
+}
+
+// What a block collection holds, at column i; `begin` is off where its first line is begun already.
+pub fn put_members(
+    w: Writer,
+    deck: &[u8],
+    pool: &[u8],
+    out: &mut [u8],
+    settings: Settings,
+    x: Spot,
+    i: usize,
+    begin: bool,
+) -> Emitted
+    requires { ⌜ (Calm settings (now deck) (now pool) (pen w (now out)) (x .next .at) i) × Good (now deck) x × (countIn (x .body) < 65536) ⌝ }
+    ensures { λ r. ⌜ Emits settings (members settings i begin (kindIn (now (deck .entry)) (now (pool .entry)) x)) (pen w (now (out .entry))) (pen (r .w) (now (out .exit))) (x .place) (endIn (now (deck .entry)) (now (pool .entry)) x) (r .next) (length (now (deck .entry))) ⌝ }
+{
+    let body = x.body;
+    let next = x.next;
+    match body {
+        Body::Null => Emitted { w, next },
+        Body::Scalar(_) => Emitted { w, next },
+        Body::Alias(_) => Emitted { w, next },
+        Body::Sequence(g) => put_rows(w, deck, pool, out, settings, false, g.count, next, i, begin),
+        Body::Mapping(g) => put_rows(w, deck, pool, out, settings, true, g.count, next, i, begin),
+    }
+}
+
+// `emit_block_sequence` and `emit_block_mapping`: the n items or pairs from a cursor on.
+fn put_rows(
+    w: Writer,
+    deck: &[u8],
+    pool: &[u8],
+    out: &mut [u8],
+    settings: Settings,
+    pairs: bool,
+    n: usize,
+    c: Cursor,
+    i: usize,
+    begin: bool,
+) -> Emitted
+    requires { ⌜ Calm settings (now deck) (now pool) (pen w (now out)) (c .at) i ⌝ }
+    ensures { λ r. ⌜ Emits settings (rows settings (now (deck .entry)) (now (pool .entry)) i pairs begin true n c) (pen w (now (out .entry))) (pen (r .w) (now (out .exit))) (c .at) (runEnd (now (deck .entry)) (now (pool .entry)) pairs n c) (r .next) (length (now (deck .entry))) ⌝ }
+{
+    let mut v = w;
+    let mut here = c;
+    let mut left = n;
+    let mut lead = begin;
+    let mut first = true;
+    while left > 0 {
+        let e = put_row(v, deck, pool, out, settings, pairs, here, i, lead, first);
+        v = e.w;
+        here = e.next;
+        lead = true;
+        first = false;
+        left -= 1;
+    }
+    Emitted { w: v, next: here }
+}
+
+// An item or a pair, with what stands before it.
+fn put_row(
+    w: Writer,
+    deck: &[u8],
+    pool: &[u8],
+    out: &mut [u8],
+    settings: Settings,
+    pairs: bool,
+    c: Cursor,
+    i: usize,
+    lead: bool,
+    first: bool,
+) -> Emitted
+    requires { ⌜ Calm settings (now deck) (now pool) (pen w (now out)) (c .at) i ⌝ }
+    ensures { λ r. ⌜ Emits settings (rowOf settings (now (deck .entry)) (now (pool .entry)) i pairs lead first c) (pen w (now (out .entry))) (pen (r .w) (now (out .exit))) (c .at) (entryEnd (now (deck .entry)) (now (pool .entry)) pairs c) (r .next) (length (now (deck .entry))) ⌝ }
+{
+    let w1 = layout::put_before(w, deck, pool, out, pairs, c, i, lead);
+    if pairs {
+        let e = put_key(w1, deck, pool, out, settings, c, i, first);
+        let v = e.w;
+        let next = e.next;
+        return put_value(v, deck, pool, out, settings, next, i);
+    }
+    put_dash(w1, deck, pool, out, settings, c, i)
+}
+
+// A key with its colon: after `?`, or inline.
+fn put_key(
+    w: Writer,
+    deck: &[u8],
+    pool: &[u8],
+    out: &mut [u8],
+    settings: Settings,
+    c: Cursor,
+    i: usize,
+    first: bool,
+) -> Emitted
+    requires { ⌜ Calm settings (now deck) (now pool) (pen w (now out)) (c .at) i ⌝ }
+    ensures { λ r. ⌜ Emits settings (keyPart settings i first (nodeAt (now (deck .entry)) (now (pool .entry)) c)) (pen w (now (out .entry))) (pen (r .w) (now (out .exit))) (c .at) (nextAt (now (deck .entry)) (now (pool .entry)) c) (r .next) (length (now (deck .entry))) ⌝ }
+{
+    let x = spot::spot_at(deck, c);
+    let lead = x.lead;
+    let body = x.body;
+    if choices::is_explicit(first, lead, body) {
+        let w1 = w.byte(out, b'?');
+        let e = put_question(w1, deck, pool, out, settings, x, i);
+        return with_colon(e, out, i);
+    }
+    flow::key(w, deck, pool, out, settings, c, i)
+}
+
+// The key of `emit_explicit_key_pair`, after the `?` at column i.
+fn put_question(
+    w: Writer,
+    deck: &[u8],
+    pool: &[u8],
+    out: &mut [u8],
+    settings: Settings,
+    x: Spot,
+    i: usize,
+) -> Emitted
+    requires { ⌜ (Calm settings (now deck) (now pool) (pen w (now out)) (x .place) i) × Good (now deck) x × (countIn (x .body) < 65536) ⌝ }
+    ensures { λ r. ⌜ Emits settings (keyBelow settings i (nodeIn (now (deck .entry)) (now (pool .entry)) x)) (pen w (now (out .entry))) (pen (r .w) (now (out .exit))) (x .place) (endIn (now (deck .entry)) (now (pool .entry)) x) (r .next) (length (now (deck .entry))) ⌝ }
+{
+    let lead = x.lead;
+    let body = x.body;
+    let j = i + choices::step_of(settings);
+    if choices::is_block(body) {
+        let w1 = parts::put_props_compact(w, pool, out, lead);
+        let w2 = w1.byte(out, b'\n');
+        return put_members(w2, deck, pool, out, settings, x, j, true);
+    }
+    layout::put_key_line(w, deck, pool, out, settings, x, j)
+}
+
+// `emit_value_after_colon`, its key at column i.
+fn put_value(
+    w: Writer,
+    deck: &[u8],
+    pool: &[u8],
+    out: &mut [u8],
+    settings: Settings,
+    c: Cursor,
+    i: usize,
+) -> Emitted
+    requires { ⌜ Calm settings (now deck) (now pool) (pen w (now out)) (c .at) i ⌝ }
+    ensures { λ r. ⌜ Emits settings (value settings i (nodeAt (now (deck .entry)) (now (pool .entry)) c)) (pen w (now (out .entry))) (pen (r .w) (now (out .exit))) (c .at) (nextAt (now (deck .entry)) (now (pool .entry)) c) (r .next) (length (now (deck .entry))) ⌝ }
+{
+    let x = spot::spot_at(deck, c);
+    let lead = x.lead;
+    let body = x.body;
+    if choices::is_included(lead.origin) {
+        return layout::put_include(w, deck, pool, out, settings, x, c);
+    }
+    if choices::is_block(body) {
+        let j = choices::value_column(settings, lead.lines, lead.tag, i, body);
+        return put_under(w, deck, pool, out, settings, x, j, j, false);
+    }
+    let j = i + choices::step_of(settings);
+    layout::put_value(w, deck, pool, out, settings, x, j)
+}
+
+// `emit_sequence_item_body`, its dash at column i.
+fn put_dash(
+    w: Writer,
+    deck: &[u8],
+    pool: &[u8],
+    out: &mut [u8],
+    settings: Settings,
+    c: Cursor,
+    i: usize,
+) -> Emitted
+    requires { ⌜ Calm settings (now deck) (now pool) (pen w (now out)) (c .at) i ⌝ }
+    ensures { λ r. ⌜ Emits settings (dash settings i (nodeAt (now (deck .entry)) (now (pool .entry)) c)) (pen w (now (out .entry))) (pen (r .w) (now (out .exit))) (c .at) (nextAt (now (deck .entry)) (now (pool .entry)) c) (r .next) (length (now (deck .entry))) ⌝ }
+{
+    let x = spot::spot_at(deck, c);
+    let lead = x.lead;
+    let body = x.body;
+    let w1 = w.byte(out, b'-');
+    if choices::is_included(lead.origin) {
+        return layout::put_include(w1, deck, pool, out, settings, x, c);
+    }
+    if choices::is_block(body) {
+        return put_dashed(w1, deck, pool, out, settings, x, i);
+    }
+    layout::put_value(w1, deck, pool, out, settings, x, i + 2)
+}
+
+// A block collection after the dash at column i: on its line, or below it.
+fn put_dashed(
+    w: Writer,
+    deck: &[u8],
+    pool: &[u8],
+    out: &mut [u8],
+    settings: Settings,
+    x: Spot,
+    i: usize,
+) -> Emitted
+    requires { ⌜ (Calm settings (now deck) (now pool) (pen w (now out)) (x .place) i) × Good (now deck) x × (countIn (x .body) < 65536) × (blockIn (x .body) ≡ true) ⌝ }
+    ensures { λ r. ⌜ Emits settings (dashIn settings (now (deck .entry)) (now (pool .entry)) i x) (pen w (now (out .entry))) (pen (r .w) (now (out .exit))) (x .place) (endIn (now (deck .entry)) (now (pool .entry)) x) (r .next) (length (now (deck .entry))) ⌝ }
+{
+    let lead = x.lead;
+    let body = x.body;
+    if choices::on_dash_line(lead.lines, lead.tag, lead.anchor, lead.remark, body) {
+        let w1 = w.byte(out, b' ');
+        let e = put_members(w1, deck, pool, out, settings, x, i + 2, false);
+        return with_foots(e, deck, pool, out, x, i + 2);
+    }
+    let j = choices::item_column(settings, lead.tag, lead.anchor, i, body);
+    put_under(w, deck, pool, out, settings, x, j, i + 2, true)
+}
+
+// A block collection below its introducer, its body at column j, its foot comments at column k.
+fn put_under(
+    w: Writer,
+    deck: &[u8],
+    pool: &[u8],
+    out: &mut [u8],
+    settings: Settings,
+    x: Spot,
+    j: usize,
+    k: usize,
+    dashed: bool,
+) -> Emitted
+    requires { ⌜ (Calm settings (now deck) (now pool) (pen w (now out)) (x .next .at) j) × Good (now deck) x × (countIn (x .body) < 65536) × (x .place < 65537) ⌝ }
+    ensures { λ r. ⌜ Emits settings (underOf settings (now (deck .entry)) (now (pool .entry)) dashed x j k) (pen w (now (out .entry))) (pen (r .w) (now (out .exit))) (x .place) (endIn (now (deck .entry)) (now (pool .entry)) x) (r .next) (length (now (deck .entry))) ⌝ }
+{
+    let w1 = put_opening(w, deck, pool, out, x, j, dashed);
+    let e = put_members(w1, deck, pool, out, settings, x, j, true);
+    with_foots(e, deck, pool, out, x, k)
+}

@@ -1,0 +1,106 @@
+use native.Mathlib.Omega.{arith}
+use mathlib.Core.Path.{refl, sym}
+use Rattle.definition.specs.Pen.{mark}
+use Rattle.parts.specs.Draws.{of-byte}
+use Rattle.layout.specs.Calm.{calm-drawn, calm-after, calm-inside}
+use Rattle.block.proofs.Laws.{deeper, dashed-on, dashed-under}
+use borrow.Author.Needs.{needs}
+use Prim.Native.Nat.{ℕ, _<_}
+use Rattle.block.proofs.put_dash.Reads as put-dash
+use Rattle.block.proofs.put_dash.Kinds as put-dash-kinds
+use Rattle.block.proofs.+put_dash+put_dashed+put_key+put_members+put_question+put_row+put_rows+put_under+put_value.Lts-put_dash as put-dash-lts
+use Rattle.block.proofs.put_dashed.Reads as put-dashed
+use Rattle.block.proofs.put_dashed.Kinds as put-dashed-kinds
+use Rattle.block.proofs.+put_dash+put_dashed+put_key+put_members+put_question+put_row+put_rows+put_under+put_value.Lts-put_dashed as put-dashed-lts
+use Rattle.block.proofs.put_key.Reads as put-key
+use Rattle.block.proofs.put_key.Kinds as put-key-kinds
+use Rattle.block.proofs.+put_dash+put_dashed+put_key+put_members+put_question+put_row+put_rows+put_under+put_value.Lts-put_key as put-key-lts
+use Rattle.block.proofs.put_members.Reads as put-members
+use Rattle.block.proofs.put_members.Kinds as put-members-kinds
+use Rattle.block.proofs.+put_dash+put_dashed+put_key+put_members+put_question+put_row+put_rows+put_under+put_value.Lts-put_members as put-members-lts
+use Rattle.block.proofs.put_question.Reads as put-question
+use Rattle.block.proofs.put_question.Kinds as put-question-kinds
+use Rattle.block.proofs.+put_dash+put_dashed+put_key+put_members+put_question+put_row+put_rows+put_under+put_value.Lts-put_question as put-question-lts
+use Rattle.block.proofs.put_row.Reads as put-row
+use Rattle.block.proofs.put_row.Kinds as put-row-kinds
+use Rattle.block.proofs.+put_dash+put_dashed+put_key+put_members+put_question+put_row+put_rows+put_under+put_value.Lts-put_row as put-row-lts
+use Rattle.block.proofs.put_rows.Reads as put-rows
+use Rattle.block.proofs.put_rows.Kinds as put-rows-kinds
+use Rattle.block.proofs.+put_dash+put_dashed+put_key+put_members+put_question+put_row+put_rows+put_under+put_value.Lts-put_rows as put-rows-lts
+use Rattle.block.proofs.put_under.Reads as put-under
+use Rattle.block.proofs.put_under.Kinds as put-under-kinds
+use Rattle.block.proofs.+put_dash+put_dashed+put_key+put_members+put_question+put_row+put_rows+put_under+put_value.Lts-put_under as put-under-lts
+use Rattle.block.proofs.put_value.Reads as put-value
+use Rattle.block.proofs.put_value.Kinds as put-value-kinds
+use Rattle.block.proofs.+put_dash+put_dashed+put_key+put_members+put_question+put_row+put_rows+put_under+put_value.Lts-put_value as put-value-lts
+use Rattle.block.proofs.put_opening.Reads as put-opening-reads
+use Rattle.block.proofs.with_colon.Reads as with-colon-reads
+use Rattle.block.proofs.with_foots.Reads as with-foots-reads
+use Rattle.choices.proofs.is_block.Reads as is-block-reads
+use Rattle.choices.proofs.is_explicit.Reads as is-explicit-reads
+use Rattle.choices.proofs.is_included.Reads as is-included-reads
+use Rattle.choices.proofs.item_column.Reads as item-column-reads
+use Rattle.choices.proofs.on_dash_line.Reads as on-dash-line-reads
+use Rattle.choices.proofs.step_of.Reads as step-of-reads
+use Rattle.choices.proofs.value_column.Reads as value-column-reads
+use Rattle.flow.proofs.key.Reads as key-reads
+use Rattle.layout.proofs.put_before.Reads as put-before-reads
+use Rattle.layout.proofs.put_include.Reads as put-include-reads
+use Rattle.layout.proofs.put_key_line.Reads as put-key-line-reads
+use Rattle.layout.proofs.put_value.Reads as put-value-reads
+use Rattle.parts.proofs.put_props_compact.Reads as put-props-compact-reads
+use Rattle.pen.proofs.Writer.byte.Reads as byte-reads
+use Rattle.spot.proofs.spot_at.Reads as spot-at-reads
+use Rattle.block.proofs.+put_dash+put_dashed+put_key+put_members+put_question+put_row+put_rows+put_under+put_value.Proof.Base.{μ-put-dash, μ-put-dashed, μ-put-key, μ-put-members, μ-put-question, μ-put-row, μ-put-rows, μ-put-under, μ-put-value, put-dash-at, put-dash-below, put-dashed-at, put-dashed-below, put-key-at, put-key-below, put-members-at, put-members-below, put-question-at, put-question-below, put-row-at, put-row-below, put-rows-at, put-rows-below, put-under-at, put-under-below, put-value-at, put-value-below, put-dash-claims, put-dashed-claims, put-key-claims, put-members-claims, put-question-claims, put-row-claims, put-rows-claims, put-under-claims, put-value-claims}
+
+-- src/lib.rt:269:8
+pub put-dashed-on-dash-line-requires : (t : ℕ) → put-dashed-lts.Need-on-dash-line-requires (put-dashed-claims t) (put-dashed-at t) put-dashed.Post
+put-dashed-on-dash-line-requires t c κs = search needs
+
+-- src/lib.rt:270:13
+pub put-dashed-byte-requires : (t : ℕ) → put-dashed-lts.Need-byte-requires (put-dashed-claims t) (put-dashed-at t) put-dashed.Post
+put-dashed-byte-requires t c κs = search needs
+
+-- src/lib.rt:271:63
+pub put-dashed-add-put-members : (t : ℕ) → put-dashed-lts.Need-add-put-members (put-dashed-claims t) (put-dashed-at t) put-dashed.Post
+put-dashed-add-put-members t c = search needs
+
+-- src/lib.rt:271:13
+pub put-dashed-put-members-requires : (t : ℕ) → put-dashed-lts.Need-put-members-requires (put-dashed-claims t) (put-dashed-at t) put-dashed.Post
+put-dashed-put-members-requires t c κs = let q = (c .before .before .before .before .before .before .before .before .before .before .before .pre) .0 in let p = (c .before .before .before .before .before .before .before .before .before .before .before .pre) .1 .0 in let g = (c .before .before .before .before .before .before .before .before .before .before .before .pre) .1 .1 in let d = deeper _ (c .before .before .before .before .before .before .before .before .before .before .before .args .x) _ g refl ((c .before .before .before .before .before .before .before .before .before .before .before .pre) .1 .3) in (omega (arith, q, d, g .within), (calm-inside (calm-drawn p (of-byte mark _ (c .before .before .before .byte .ensures))) _ _ d (g .within) (omega arith), g, (c .before .before .before .before .before .before .before .before .before .before .before .pre) .1 .2))
+
+-- src/lib.rt:272:50
+pub put-dashed-add-with-foots : (t : ℕ) → put-dashed-lts.Need-add-with-foots (put-dashed-claims t) (put-dashed-at t) put-dashed.Post
+put-dashed-add-with-foots t c = let p = (c .before .before .before .before .before .before .before .before .before .before .before .before .before .before .before .pre) .1 .0 .column in omega (arith, p)
+
+-- src/lib.rt:272:9
+pub put-dashed-with-foots-requires : (t : ℕ) → put-dashed-lts.Need-with-foots-requires (put-dashed-claims t) (put-dashed-at t) put-dashed.Post
+put-dashed-with-foots-requires t c κs = let z = calm-after (calm-drawn ((c .before .before .before .before .before .before .before .before .before .before .before .before .before .before .before .pre) .1 .0) (of-byte mark _ (c .before .before .before .before .before .before .before .byte .ensures))) _ _ _ (c .before .before .before .put-members .ensures .drawn) in (omega (arith, z .ready .out-small), (c .before .before .before .before .before .before .before .before .before .before .before .before .before .before .before .pre) .1 .1 .short)
+
+-- src/lib.rt:272:9
+pub put-dashed-same-length : (t : ℕ) → put-dashed-lts.Need-same-length (put-dashed-claims t) (put-dashed-at t) put-dashed.Post
+put-dashed-same-length t c = search needs
+
+-- src/lib.rt:272:9
+pub put-dashed-returns : (t : ℕ) → put-dashed-lts.Need-returns (put-dashed-claims t) (put-dashed-at t) put-dashed.Post
+put-dashed-returns t c = dashed-on _ _ _ _ _ _ _ _ (c .before .before .before .before .before .before .before .before .before .before .before .before .before .on-dash-line .ensures) (c .before .before .before .before .before .before .before .before .before .before .before .before .if1 .taken) (c .before .before .before .before .before .before .before .before .before .before .byte .ensures) (c .before .before .before .before .before .before .put-members .ensures) (c .before .before .with-foots .ensures)
+
+-- src/lib.rt:274:9
+pub put-dashed-item-column-requires : (t : ℕ) → put-dashed-lts.Need-item-column-requires (put-dashed-claims t) (put-dashed-at t) put-dashed.Post
+put-dashed-item-column-requires t c κs = search needs
+
+-- src/lib.rt:275:51
+pub put-dashed-add-put-under : (t : ℕ) → put-dashed-lts.Need-add-put-under (put-dashed-claims t) (put-dashed-at t) put-dashed.Post
+put-dashed-add-put-under t c = search needs
+
+-- src/lib.rt:275:5
+pub put-dashed-put-under-requires : (t : ℕ) → put-dashed-lts.Need-put-under-requires (put-dashed-claims t) (put-dashed-at t) put-dashed.Post
+put-dashed-put-under-requires t c κs = let q = (c .before .before .before .before .before .before .before .before .pre) .0 in let p = (c .before .before .before .before .before .before .before .before .pre) .1 .0 in let g = (c .before .before .before .before .before .before .before .before .pre) .1 .1 in let d = deeper _ (c .before .before .before .before .before .before .before .before .args .x) _ g refl ((c .before .before .before .before .before .before .before .before .pre) .1 .3) in let v = c .before .item-column .ensures in (omega (arith, q, d, g .within), (calm-inside p _ _ d (g .within) (v .2), g, (c .before .before .before .before .before .before .before .before .pre) .1 .2, (let h = p .ready .here in let k = p .ready .deck-small in omega (arith, h, k))))
+
+-- src/lib.rt:255:1
+pub put-dashed-same-length-2 : (t : ℕ) → put-dashed-lts.Need-same-length-2 (put-dashed-claims t) (put-dashed-at t) put-dashed.Post
+put-dashed-same-length-2 t c = search needs
+
+-- src/lib.rt:255:1
+pub put-dashed-returns-2 : (t : ℕ) → put-dashed-lts.Need-returns-2 (put-dashed-claims t) (put-dashed-at t) put-dashed.Post
+put-dashed-returns-2 t c = dashed-under _ _ _ _ _ _ _ _ (c .before .before .before .before .before .before .on-dash-line .ensures) (c .before .before .before .before .before .if1 .left) (c .before .before .before .before .item-column .ensures .0) (c .before .before .put-under .ensures)

@@ -1,0 +1,93 @@
+use native.Mathlib.Omega.{arith}
+use Rattle.definition.specs.Pen.{mark}
+use Rattle.parts.specs.Draws.{of-byte}
+use Rattle.layout.specs.Calm.{calm-drawn, calm-after, calm-further}
+use Rattle.block.proofs.Laws.{spot-good, few-spot, key-explicit, key-inline}
+use borrow.Author.Needs.{needs}
+use Prim.Native.Nat.{ℕ, _<_}
+use Rattle.block.proofs.put_dash.Reads as put-dash
+use Rattle.block.proofs.put_dash.Kinds as put-dash-kinds
+use Rattle.block.proofs.+put_dash+put_dashed+put_key+put_members+put_question+put_row+put_rows+put_under+put_value.Lts-put_dash as put-dash-lts
+use Rattle.block.proofs.put_dashed.Reads as put-dashed
+use Rattle.block.proofs.put_dashed.Kinds as put-dashed-kinds
+use Rattle.block.proofs.+put_dash+put_dashed+put_key+put_members+put_question+put_row+put_rows+put_under+put_value.Lts-put_dashed as put-dashed-lts
+use Rattle.block.proofs.put_key.Reads as put-key
+use Rattle.block.proofs.put_key.Kinds as put-key-kinds
+use Rattle.block.proofs.+put_dash+put_dashed+put_key+put_members+put_question+put_row+put_rows+put_under+put_value.Lts-put_key as put-key-lts
+use Rattle.block.proofs.put_members.Reads as put-members
+use Rattle.block.proofs.put_members.Kinds as put-members-kinds
+use Rattle.block.proofs.+put_dash+put_dashed+put_key+put_members+put_question+put_row+put_rows+put_under+put_value.Lts-put_members as put-members-lts
+use Rattle.block.proofs.put_question.Reads as put-question
+use Rattle.block.proofs.put_question.Kinds as put-question-kinds
+use Rattle.block.proofs.+put_dash+put_dashed+put_key+put_members+put_question+put_row+put_rows+put_under+put_value.Lts-put_question as put-question-lts
+use Rattle.block.proofs.put_row.Reads as put-row
+use Rattle.block.proofs.put_row.Kinds as put-row-kinds
+use Rattle.block.proofs.+put_dash+put_dashed+put_key+put_members+put_question+put_row+put_rows+put_under+put_value.Lts-put_row as put-row-lts
+use Rattle.block.proofs.put_rows.Reads as put-rows
+use Rattle.block.proofs.put_rows.Kinds as put-rows-kinds
+use Rattle.block.proofs.+put_dash+put_dashed+put_key+put_members+put_question+put_row+put_rows+put_under+put_value.Lts-put_rows as put-rows-lts
+use Rattle.block.proofs.put_under.Reads as put-under
+use Rattle.block.proofs.put_under.Kinds as put-under-kinds
+use Rattle.block.proofs.+put_dash+put_dashed+put_key+put_members+put_question+put_row+put_rows+put_under+put_value.Lts-put_under as put-under-lts
+use Rattle.block.proofs.put_value.Reads as put-value
+use Rattle.block.proofs.put_value.Kinds as put-value-kinds
+use Rattle.block.proofs.+put_dash+put_dashed+put_key+put_members+put_question+put_row+put_rows+put_under+put_value.Lts-put_value as put-value-lts
+use Rattle.block.proofs.put_opening.Reads as put-opening-reads
+use Rattle.block.proofs.with_colon.Reads as with-colon-reads
+use Rattle.block.proofs.with_foots.Reads as with-foots-reads
+use Rattle.choices.proofs.is_block.Reads as is-block-reads
+use Rattle.choices.proofs.is_explicit.Reads as is-explicit-reads
+use Rattle.choices.proofs.is_included.Reads as is-included-reads
+use Rattle.choices.proofs.item_column.Reads as item-column-reads
+use Rattle.choices.proofs.on_dash_line.Reads as on-dash-line-reads
+use Rattle.choices.proofs.step_of.Reads as step-of-reads
+use Rattle.choices.proofs.value_column.Reads as value-column-reads
+use Rattle.flow.proofs.key.Reads as key-reads
+use Rattle.layout.proofs.put_before.Reads as put-before-reads
+use Rattle.layout.proofs.put_include.Reads as put-include-reads
+use Rattle.layout.proofs.put_key_line.Reads as put-key-line-reads
+use Rattle.layout.proofs.put_value.Reads as put-value-reads
+use Rattle.parts.proofs.put_props_compact.Reads as put-props-compact-reads
+use Rattle.pen.proofs.Writer.byte.Reads as byte-reads
+use Rattle.spot.proofs.spot_at.Reads as spot-at-reads
+use Rattle.block.proofs.+put_dash+put_dashed+put_key+put_members+put_question+put_row+put_rows+put_under+put_value.Proof.Base.{μ-put-dash, μ-put-dashed, μ-put-key, μ-put-members, μ-put-question, μ-put-row, μ-put-rows, μ-put-under, μ-put-value, put-dash-at, put-dash-below, put-dashed-at, put-dashed-below, put-key-at, put-key-below, put-members-at, put-members-below, put-question-at, put-question-below, put-row-at, put-row-below, put-rows-at, put-rows-below, put-under-at, put-under-below, put-value-at, put-value-below, put-dash-claims, put-dashed-claims, put-key-claims, put-members-claims, put-question-claims, put-row-claims, put-rows-claims, put-under-claims, put-value-claims}
+
+-- src/lib.rt:166:9
+pub put-key-spot-at-requires : (t : ℕ) → put-key-lts.Need-spot-at-requires (put-key-claims t) (put-key-at t) put-key.Post
+put-key-spot-at-requires t c κs = search needs
+
+-- src/lib.rt:169:8
+pub put-key-is-explicit-requires : (t : ℕ) → put-key-lts.Need-is-explicit-requires (put-key-claims t) (put-key-at t) put-key.Post
+put-key-is-explicit-requires t c κs = search needs
+
+-- src/lib.rt:170:13
+pub put-key-byte-requires : (t : ℕ) → put-key-lts.Need-byte-requires (put-key-claims t) (put-key-at t) put-key.Post
+put-key-byte-requires t c κs = search needs
+
+-- src/lib.rt:171:13
+pub put-key-put-question-requires : (t : ℕ) → put-key-lts.Need-put-question-requires (put-key-claims t) (put-key-at t) put-key.Post
+put-key-put-question-requires t c κs = let q = (c .before .before .before .before .before .before .before .before .before .before .before .before .pre) .0 in let p = (c .before .before .before .before .before .before .before .before .before .before .before .before .pre) .1 in let r = p .ready in let g = spot-good _ _ _ (r .here) (r .deck-small) (c .before .before .before .before .before .before .before .before .spot-at .ensures) in (omega (arith, q, g .1, g .2), (calm-further (calm-drawn p (of-byte mark _ (c .before .before .before .byte .ensures))) _ (g .1) (g .2), g .0, few-spot _ (λ k. omega (arith, c .before .before .before .before .before .before .before .before .before .before .before .shared-slice-known .given k)) _ _ (r .here) (c .before .before .before .before .before .before .before .before .spot-at .ensures)))
+
+-- src/lib.rt:172:9
+pub put-key-with-colon-requires : (t : ℕ) → put-key-lts.Need-with-colon-requires (put-key-claims t) (put-key-at t) put-key.Post
+put-key-with-colon-requires t c κs = let z = calm-after (calm-drawn ((c .before .before .before .before .before .before .before .before .before .before .before .before .before .before .before .before .pre) .1) (of-byte mark _ (c .before .before .before .before .before .before .before .byte .ensures))) _ _ _ (c .before .before .before .put-question .ensures .drawn) in omega (arith, z .ready .out-small)
+
+-- src/lib.rt:172:9
+pub put-key-same-length : (t : ℕ) → put-key-lts.Need-same-length (put-key-claims t) (put-key-at t) put-key.Post
+put-key-same-length t c = search needs
+
+-- src/lib.rt:172:9
+pub put-key-returns : (t : ℕ) → put-key-lts.Need-returns (put-key-claims t) (put-key-at t) put-key.Post
+put-key-returns t c = let r = (c .before .before .before .before .before .before .before .before .before .before .before .before .before .before .before .before .before .before .before .pre) .1 .ready in key-explicit _ _ _ _ _ _ _ _ _ _ (r .here) (r .deck-small) (c .before .before .before .before .before .before .before .before .before .before .before .before .before .before .before .spot-at .ensures) (c .before .before .before .before .before .before .before .before .before .before .before .before .before .is-explicit .ensures) (c .before .before .before .before .before .before .before .before .before .before .before .before .if1 .taken) (c .before .before .before .before .before .before .before .before .before .before .byte .ensures) (c .before .before .before .before .before .before .put-question .ensures) (c .before .before .with-colon .ensures)
+
+-- src/lib.rt:174:5
+pub put-key-key-requires : (t : ℕ) → put-key-lts.Need-key-requires (put-key-claims t) (put-key-at t) put-key.Post
+put-key-key-requires t c κs = search needs
+
+-- src/lib.rt:153:1
+pub put-key-same-length-2 : (t : ℕ) → put-key-lts.Need-same-length-2 (put-key-claims t) (put-key-at t) put-key.Post
+put-key-same-length-2 t c = search needs
+
+-- src/lib.rt:153:1
+pub put-key-returns-2 : (t : ℕ) → put-key-lts.Need-returns-2 (put-key-claims t) (put-key-at t) put-key.Post
+put-key-returns-2 t c = let p = (c .before .before .before .before .before .before .before .before .before .before .before .pre) .1 in key-inline _ _ _ _ _ _ _ _ _ _ (p .ready .here) (c .before .before .before .before .before .before .before .spot-at .ensures) (c .before .before .before .before .before .is-explicit .ensures) (c .before .before .before .before .if1 .left) (p .flow) (c .before .before .key .ensures)

@@ -1,0 +1,98 @@
+use native.Mathlib.Omega.{arith}
+use mathlib.Core.Path.{refl}
+use Rattle.definition.specs.Pen.{space}
+use Rattle.parts.specs.Draws.{of-byte}
+use Rattle.layout.specs.Calm.{calm-drawn, calm-inside, in-line}
+use Rattle.block.proofs.Laws.{deeper, key-below-block, key-below-line}
+use borrow.Author.Needs.{needs}
+use Prim.Native.Nat.{ℕ, _<_}
+use Rattle.block.proofs.put_dash.Reads as put-dash
+use Rattle.block.proofs.put_dash.Kinds as put-dash-kinds
+use Rattle.block.proofs.+put_dash+put_dashed+put_key+put_members+put_question+put_row+put_rows+put_under+put_value.Lts-put_dash as put-dash-lts
+use Rattle.block.proofs.put_dashed.Reads as put-dashed
+use Rattle.block.proofs.put_dashed.Kinds as put-dashed-kinds
+use Rattle.block.proofs.+put_dash+put_dashed+put_key+put_members+put_question+put_row+put_rows+put_under+put_value.Lts-put_dashed as put-dashed-lts
+use Rattle.block.proofs.put_key.Reads as put-key
+use Rattle.block.proofs.put_key.Kinds as put-key-kinds
+use Rattle.block.proofs.+put_dash+put_dashed+put_key+put_members+put_question+put_row+put_rows+put_under+put_value.Lts-put_key as put-key-lts
+use Rattle.block.proofs.put_members.Reads as put-members
+use Rattle.block.proofs.put_members.Kinds as put-members-kinds
+use Rattle.block.proofs.+put_dash+put_dashed+put_key+put_members+put_question+put_row+put_rows+put_under+put_value.Lts-put_members as put-members-lts
+use Rattle.block.proofs.put_question.Reads as put-question
+use Rattle.block.proofs.put_question.Kinds as put-question-kinds
+use Rattle.block.proofs.+put_dash+put_dashed+put_key+put_members+put_question+put_row+put_rows+put_under+put_value.Lts-put_question as put-question-lts
+use Rattle.block.proofs.put_row.Reads as put-row
+use Rattle.block.proofs.put_row.Kinds as put-row-kinds
+use Rattle.block.proofs.+put_dash+put_dashed+put_key+put_members+put_question+put_row+put_rows+put_under+put_value.Lts-put_row as put-row-lts
+use Rattle.block.proofs.put_rows.Reads as put-rows
+use Rattle.block.proofs.put_rows.Kinds as put-rows-kinds
+use Rattle.block.proofs.+put_dash+put_dashed+put_key+put_members+put_question+put_row+put_rows+put_under+put_value.Lts-put_rows as put-rows-lts
+use Rattle.block.proofs.put_under.Reads as put-under
+use Rattle.block.proofs.put_under.Kinds as put-under-kinds
+use Rattle.block.proofs.+put_dash+put_dashed+put_key+put_members+put_question+put_row+put_rows+put_under+put_value.Lts-put_under as put-under-lts
+use Rattle.block.proofs.put_value.Reads as put-value
+use Rattle.block.proofs.put_value.Kinds as put-value-kinds
+use Rattle.block.proofs.+put_dash+put_dashed+put_key+put_members+put_question+put_row+put_rows+put_under+put_value.Lts-put_value as put-value-lts
+use Rattle.block.proofs.put_opening.Reads as put-opening-reads
+use Rattle.block.proofs.with_colon.Reads as with-colon-reads
+use Rattle.block.proofs.with_foots.Reads as with-foots-reads
+use Rattle.choices.proofs.is_block.Reads as is-block-reads
+use Rattle.choices.proofs.is_explicit.Reads as is-explicit-reads
+use Rattle.choices.proofs.is_included.Reads as is-included-reads
+use Rattle.choices.proofs.item_column.Reads as item-column-reads
+use Rattle.choices.proofs.on_dash_line.Reads as on-dash-line-reads
+use Rattle.choices.proofs.step_of.Reads as step-of-reads
+use Rattle.choices.proofs.value_column.Reads as value-column-reads
+use Rattle.flow.proofs.key.Reads as key-reads
+use Rattle.layout.proofs.put_before.Reads as put-before-reads
+use Rattle.layout.proofs.put_include.Reads as put-include-reads
+use Rattle.layout.proofs.put_key_line.Reads as put-key-line-reads
+use Rattle.layout.proofs.put_value.Reads as put-value-reads
+use Rattle.parts.proofs.put_props_compact.Reads as put-props-compact-reads
+use Rattle.pen.proofs.Writer.byte.Reads as byte-reads
+use Rattle.spot.proofs.spot_at.Reads as spot-at-reads
+use Rattle.block.proofs.+put_dash+put_dashed+put_key+put_members+put_question+put_row+put_rows+put_under+put_value.Proof.Base.{μ-put-dash, μ-put-dashed, μ-put-key, μ-put-members, μ-put-question, μ-put-row, μ-put-rows, μ-put-under, μ-put-value, put-dash-at, put-dash-below, put-dashed-at, put-dashed-below, put-key-at, put-key-below, put-members-at, put-members-below, put-question-at, put-question-below, put-row-at, put-row-below, put-rows-at, put-rows-below, put-under-at, put-under-below, put-value-at, put-value-below, put-dash-claims, put-dashed-claims, put-key-claims, put-members-claims, put-question-claims, put-row-claims, put-rows-claims, put-under-claims, put-value-claims}
+
+-- src/lib.rt:192:17
+pub put-question-step-of-requires : (t : ℕ) → put-question-lts.Need-step-of-requires (put-question-claims t) (put-question-at t) put-question.Post
+put-question-step-of-requires t c κs = search needs
+
+-- src/lib.rt:192:13
+pub put-question-add-j : (t : ℕ) → put-question-lts.Need-add-j (put-question-claims t) (put-question-at t) put-question.Post
+put-question-add-j t c = let p = (c .before .before .before .before .before .pre) .1 .0 in let e = c .step-of .ensures .1 (p .ready .step) in omega (arith, e, p .column)
+
+-- src/lib.rt:193:8
+pub put-question-is-block-requires : (t : ℕ) → put-question-lts.Need-is-block-requires (put-question-claims t) (put-question-at t) put-question.Post
+put-question-is-block-requires t c κs = search needs
+
+-- src/lib.rt:194:13
+pub put-question-put-props-compact-requires : (t : ℕ) → put-question-lts.Need-put-props-compact-requires (put-question-claims t) (put-question-at t) put-question.Post
+put-question-put-props-compact-requires t c κs = search needs
+
+-- src/lib.rt:195:13
+pub put-question-byte-requires : (t : ℕ) → put-question-lts.Need-byte-requires (put-question-claims t) (put-question-at t) put-question.Post
+put-question-byte-requires t c κs = search needs
+
+-- src/lib.rt:196:9
+pub put-question-put-members-requires : (t : ℕ) → put-question-lts.Need-put-members-requires (put-question-claims t) (put-question-at t) put-question.Post
+put-question-put-members-requires t c κs = let q = (c .before .before .before .before .before .before .before .before .before .before .before .before .before .before .before .before .pre) .0 in let p = (c .before .before .before .before .before .before .before .before .before .before .before .before .before .before .before .before .pre) .1 .0 in let g = (c .before .before .before .before .before .before .before .before .before .before .before .before .before .before .before .before .pre) .1 .1 in let d = deeper _ (c .before .before .before .before .before .before .before .before .before .before .before .before .before .before .before .before .args .x) _ g (c .before .before .before .before .before .before .before .before .before .before .is-block .ensures) (c .before .before .before .before .before .before .before .before .before .if1 .taken) in let e = c .before .before .before .before .before .before .before .before .before .before .before .step-of .ensures .1 (p .ready .step) in (omega (arith, q, d, g .within), (calm-inside (calm-drawn (calm-drawn p (c .before .before .before .before .before .before .before .put-props-compact .ensures)) (of-byte space _ (c .before .before .before .byte .ensures))) _ _ d (g .within) (omega (arith, e)), g, (c .before .before .before .before .before .before .before .before .before .before .before .before .before .before .before .before .pre) .1 .2))
+
+-- src/lib.rt:196:9
+pub put-question-same-length : (t : ℕ) → put-question-lts.Need-same-length (put-question-claims t) (put-question-at t) put-question.Post
+put-question-same-length t c = search needs
+
+-- src/lib.rt:196:9
+pub put-question-returns : (t : ℕ) → put-question-lts.Need-returns (put-question-claims t) (put-question-at t) put-question.Post
+put-question-returns t c = key-below-block _ _ _ _ _ _ _ _ _ (c .before .before .before .before .before .before .before .before .before .before .before .before .before .before .step-of .ensures .0) refl (c .before .before .before .before .before .before .before .before .before .before .before .before .before .is-block .ensures) (c .before .before .before .before .before .before .before .before .before .before .before .before .if1 .taken) (c .before .before .before .before .before .before .before .before .before .before .put-props-compact .ensures) (c .before .before .before .before .before .before .byte .ensures) (c .before .before .put-members .ensures)
+
+-- src/lib.rt:198:5
+pub put-question-put-key-line-requires : (t : ℕ) → put-question-lts.Need-put-key-line-requires (put-question-claims t) (put-question-at t) put-question.Post
+put-question-put-key-line-requires t c κs = let p = (c .before .before .before .before .before .before .before .before .pre) .1 .0 in let e = c .before .before .before .step-of .ensures .1 (p .ready .step) in (in-line p _ _ (omega arith) (p .ready .here) (omega (arith, e)), (c .before .before .before .before .before .before .before .before .pre) .1 .1, (c .before .before .before .before .before .before .before .before .pre) .1 .2, p .flow, p .key)
+
+-- src/lib.rt:178:1
+pub put-question-same-length-2 : (t : ℕ) → put-question-lts.Need-same-length-2 (put-question-claims t) (put-question-at t) put-question.Post
+put-question-same-length-2 t c = search needs
+
+-- src/lib.rt:178:1
+pub put-question-returns-2 : (t : ℕ) → put-question-lts.Need-returns-2 (put-question-claims t) (put-question-at t) put-question.Post
+put-question-returns-2 t c = key-below-line _ _ _ _ _ _ _ _ _ (c .before .before .before .before .before .before .step-of .ensures .0) refl (c .before .before .before .before .before .is-block .ensures) (c .before .before .before .before .if1 .left) (c .before .before .put-key-line .ensures)

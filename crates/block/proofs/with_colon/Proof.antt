@@ -1,0 +1,30 @@
+use mathlib.Core.Path.{refl}
+use Rattle.definition.specs.Pen.{space, mark, indent, sign}
+use Rattle.parts.specs.Draws.{both, of-puts, of-byte}
+use borrow.Author.Needs.{needs}
+use Rattle.block.proofs.with_colon.Statement.{statement}
+use Rattle.block.proofs.with_colon.Tie as tie
+use Rattle.block.proofs.with_colon.Reads as reads
+use Rattle.block.proofs.with_colon.Lts as lts
+use Rattle.pen.proofs.Writer.byte.Reads as byte-reads
+use Rattle.pen.proofs.Writer.spaces.Reads as spaces-reads
+
+-- src/lib.rt:64:9
+spaces-requires : tie.Need-spaces-requires
+spaces-requires c κs = search needs
+
+-- src/lib.rt:65:9
+byte-requires : tie.Need-byte-requires
+byte-requires c κs = search needs
+
+-- src/lib.rt:58:1
+same-length : tie.Need-same-length
+same-length c = search needs
+
+-- src/lib.rt:58:1
+returns : tie.Need-returns
+unfolding indent sign
+returns c = record { drawn = both _ _ (of-puts space _ (c .before .before .before .before .before .before .spaces .ensures)) (of-byte mark _ (c .before .before .byte .ensures)); next = refl }
+
+pub with-colon-spec : {M : Type 1} → statement M
+with-colon-spec = tie.close (tie.spec spaces-requires byte-requires same-length returns)
