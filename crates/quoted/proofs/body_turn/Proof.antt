@@ -22,7 +22,7 @@ put-piece-requires : tie.Need-put-piece-requires
 put-piece-requires c κs = search needs
 
 others-requires : tie.Need-others-requires
-others-requires c κs = search needs
+others-requires c κs = tt
 
 same-length : tie.Need-same-length
 same-length c = search needs

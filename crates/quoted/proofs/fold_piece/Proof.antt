@@ -17,13 +17,13 @@ put-piece-requires : tie.Need-put-piece-requires
 put-piece-requires c κs = search needs
 
 columns-requires : tie.Need-columns-requires
-columns-requires c κs = search needs
+columns-requires c κs = tt
 
 add-t13 : tie.Need-add-t13
 add-t13 c = search needs
 
 others-requires : tie.Need-others-requires
-others-requires c κs = search needs
+others-requires c κs = tt
 
 shared-slice-read-t16 : tie.Need-shared-slice-read-t16
 shared-slice-read-t16 c = search needs

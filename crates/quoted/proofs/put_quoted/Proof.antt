@@ -10,7 +10,7 @@ use Rattle.quoted.proofs.put_body.Reads as put-body-reads
 use Rattle.quoted.proofs.quote_of.Reads as quote-of-reads
 
 quote-of-requires : tie.Need-quote-of-requires
-quote-of-requires c κs = search needs
+quote-of-requires c κs = tt
 
 byte-requires : tie.Need-byte-requires
 byte-requires c κs = search needs

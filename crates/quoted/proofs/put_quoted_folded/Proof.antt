@@ -12,10 +12,10 @@ use Rattle.quoted.proofs.put_folded.Reads as put-folded-reads
 use Rattle.quoted.proofs.quote_of.Reads as quote-of-reads
 
 at-least-one-requires : tie.Need-at-least-one-requires
-at-least-one-requires c κs = search needs
+at-least-one-requires c κs = tt
 
 quote-of-requires : tie.Need-quote-of-requires
-quote-of-requires c κs = search needs
+quote-of-requires c κs = tt
 
 byte-requires : tie.Need-byte-requires
 byte-requires c κs = search needs

@@ -9,7 +9,7 @@ use Rattle.quoted.proofs.put_quoted_folded.Reads as put-quoted-folded-r
 use Rattle.quoted.proofs.will_fold.Reads as will-fold-reads
 
 will-fold-requires : tie.Need-will-fold-requires
-will-fold-requires c κs = search needs
+will-fold-requires c κs = tt
 
 put-quoted-folded-requires : tie.Need-put-quoted-folded-requires
 put-quoted-folded-requires c κs = search needs

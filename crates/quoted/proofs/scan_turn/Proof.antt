@@ -20,13 +20,13 @@ piece-at-requires : tie.Need-piece-at-requires
 piece-at-requires c κs = search needs
 
 columns-requires : tie.Need-columns-requires
-columns-requires c κs = search needs
+columns-requires c κs = tt
 
 add-t10 : tie.Need-add-t10
 add-t10 c = search needs
 
 others-requires : tie.Need-others-requires
-others-requires c κs = search needs
+others-requires c κs = tt
 
 shared-slice-read-t13 : tie.Need-shared-slice-read-t13
 shared-slice-read-t13 c = search needs
