@@ -1,10 +1,11 @@
 // Well-formed UTF-8, after the Unicode Standard, table 3-7.
 ghost use mathlib.Core.Path.{_≡_};
 ghost use mathlib.Core.Bool.{true, false};
-ghost use Prim.Native.Nat.{_+_, _≤_};
+ghost use Prim.Native.Nat.{_+_, _<_, _≤_};
 ghost use lib.ListN.{length, drop, take};
 ghost use Rattle.definition.specs.Utf8.{isFirst, due, low, high, wellFormed};
 ghost use Rattle.utf8.specs.Chars.{more, charLen, leadingOnes, boundary};
+ghost use Rattle.utf8.specs.Runs.{RunEnds, Runs};
 
 // The number of leading ones of a byte: the leading zeros of its complement.
 pub fn leading_ones(b: u8) -> u32
@@ -157,4 +158,55 @@ pub fn cut_well_formed(s: &[u8], from: usize, len: usize) -> bool
         return is_boundary(s, from + len);
     }
     false
+}
+
+fn narrow(n: usize) -> u32
+    requires { ⌜ n ≤ 65536 ⌝ }
+    ensures { λ r. ⌜ r ≡ n ⌝ }
+{
+    n as u32
+}
+
+// Where the run of whole characters from a place ends, by a table of the later places.
+fn run_end(s: &[u8], ends: &[u32], at: usize) -> u32
+    requires { ⌜ (at ≤ length (now s)) × (length (now s) ≤ 65536) × (length (now s) < length (now ends)) ⌝ }
+    requires { ⌜ Runs (now s) (at + 1) (now ends) ⌝ }
+    ensures { λ r. ⌜ RunEnds (now (s .entry)) at r ⌝ }
+{
+    let n = char_len(s, at);
+    if n == 0 {
+        return narrow(at);
+    }
+    ends[at + n]
+}
+
+// A table of where the run from each place ends, filled from the back.
+pub fn mark_runs(s: &[u8], ends: &mut [u32])
+    requires { ⌜ (length (now s) ≤ 65536) × (length (now s) < length (now ends)) ⌝ }
+    ensures { λ r. ⌜ Runs (now (s .entry)) 0 (now (ends .exit)) ⌝ }
+{
+    let mut left: usize = s.len() + 1;
+    while left > 0 {
+        left -= 1;
+        let end = run_end(s, ends, left);
+        ends[left] = end;
+    }
+}
+
+// Whether a part of a text is whole characters, by where the run from its start ends.
+pub fn run_well_formed(s: &[u8], from: usize, len: usize, end: usize) -> bool
+    requires { ⌜ (from + len ≤ length (now s)) × RunEnds (now s) from end ⌝ }
+    ensures { λ r. ⌜ r ≡ wellFormed (take len (drop from (now (s .entry)))) ⌝ }
+{
+    let past = from + len;
+    if len == 0 {
+        return true;
+    }
+    if end < past {
+        return false;
+    }
+    if end == past {
+        return true;
+    }
+    is_boundary(s, past)
 }

@@ -111,11 +111,11 @@ returns-8 c = rw (c .text-fault7 .ensures, c .before .before .r8 .given .1)
 
 returns-9 : tie.Need-returns-9
 unfolding references
-returns-9 c = rw (c .enum-told .given .1) (no-texts (c .before .before .before .args .pool .now))
+returns-9 c = rw (c .enum-told .given .1) (no-texts (c .before .before .before .before .args .pool .now))
 
 returns-10 : tie.Need-returns-10
 unfolding references
-returns-10 c = rw (c .enum-told2 .given .1) (no-texts (c .before .before .before .args .pool .now))
+returns-10 c = rw (c .enum-told2 .given .1) (no-texts (c .before .before .before .before .args .pool .now))
 
 returns-11 : tie.Need-returns-11
 unfolding references
@@ -127,11 +127,11 @@ returns-12 c = rw (c .text-fault9 .ensures, c .before .before .r10 .given .1)
 
 returns-13 : tie.Need-returns-13
 unfolding references
-returns-13 c = rw (c .enum-told3 .given .1) (no-texts (c .before .before .before .args .pool .now))
+returns-13 c = rw (c .enum-told3 .given .1) (no-texts (c .before .before .before .before .args .pool .now))
 
 returns-14 : tie.Need-returns-14
 unfolding references
-returns-14 c = rw (c .enum-told4 .given .1) (no-texts (c .before .before .before .args .pool .now))
+returns-14 c = rw (c .enum-told4 .given .1) (no-texts (c .before .before .before .before .args .pool .now))
 
 pub record-fault-spec : {M : Type 1} → statement M
 record-fault-spec =
