@@ -29,13 +29,13 @@ returns : tie.Need-returns Inv-loop μ-loop
 returns c = (lead-stop (c .before .before .before .before .before .before .before .before .args .deck .now) (c .before .before .before .before .before .before .before .before .args .pool .now) (c .before .before .before .before .loop .last) (c .before .before .before .before .loop .here) (c .before .before .before .before .loop .left) _ _ _ (c .before .before .before .loop-test .taken) (c .before .before .judge-record .ensures) (c .enum-told .given .1) ∙ c .before .before .before .before .loop .inv, rw (c .enum-told .given .1) tt)
 
 is-node-requires : tie.Need-is-node-requires Inv-loop μ-loop
-is-node-requires c κs = search needs
+is-node-requires c κs = tt
 
 returns-2 : tie.Need-returns-2 Inv-loop μ-loop
 returns-2 c = (lead-node (c .before .before .before .before .before .before .before .before .before .before .before .args .deck .now) (c .before .before .before .before .before .before .before .before .before .before .before .args .pool .now) (c .before .before .before .before .before .before .before .loop .last) (c .before .before .before .before .before .before .before .loop .here) (c .before .before .before .before .before .before .before .loop .left) _ _ _ (c .before .before .before .before .before .before .loop-test .taken) (c .before .before .before .before .before .judge-record .ensures) (c .before .before .before .s .given .1) (c .before .is-node .ensures) (c .if1 .taken) ∙ c .before .before .before .before .before .before .before .loop .inv, lead-fits (c .before .before .before .before .before .before .before .before .before .before .before .args .deck .now) (c .before .before .before .before .before .before .before .before .before .before .before .args .pool .now) (c .before .before .before .before .before .before .before .loop .last) (c .before .before .before .before .before .before .before .loop .here) _ _ (c .before .before .before .before .before .judge-record .ensures) (c .before .before .before .s .given .1))
 
 kind-requires : tie.Need-kind-requires Inv-loop μ-loop
-kind-requires c κs = search needs
+kind-requires c κs = tt
 
 sub-left : tie.Need-sub-left Inv-loop μ-loop
 sub-left c = search needs

@@ -14,7 +14,7 @@ read-requires : tie.Need-read-requires
 read-requires c κs = search needs
 
 record-fault-requires : tie.Need-record-fault-requires
-record-fault-requires c κs = search needs
+record-fault-requires c κs = c .before .before .before .before .before .before .before .pre
 
 returns-2 : tie.Need-returns-2
 returns-2 c = rec-on (c .before .before .before .before .before .before .before .before .before .before .args .deck .now) (c .before .before .before .before .before .before .before .before .before .before .args .pool .now) (c .before .before .before .before .before .before .before .before .before .before .args .last) (c .before .before .before .before .before .before .before .before .before .before .args .c) _ _ _ _ (c .before .before .before .before .before .before .if1 .left) (c .before .before .before .before .before .is-sound .ensures) (c .before .before .before .before .if2 .taken) (c .before .before .before .read .ensures .0) (c .before .before .before .read .ensures .1) (c .before .before .record-fault .ensures) (c .before .if3 .taken)
