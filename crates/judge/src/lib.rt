@@ -22,14 +22,7 @@ pub enum Verdict {
     Refused { number: usize, place: usize },
 }
 
-fn wide(n: u32) -> usize
-    ensures { λ r. ⌜ r ≡ n ⌝ }
-{
-    n as usize
-}
-
-// Whether a part of the pool is well formed: where the pool is so as a whole, its two ends tell; else the run of whole characters from its
-// start does, as far as the table of runs goes.
+// Whether a part of the pool is well formed: where the pool is so as a whole, its two ends tell; else a table of runs, where there is one.
 fn is_text(pool: &[u8], whole: bool, ends: &[u32], from: usize, len: usize) -> bool
     requires { ⌜ (from + len ≤ length (now pool)) × (Known (now pool) whole (now ends)) ⌝ }
     ensures { λ r. ⌜ r ≡ wellFormed (take len (drop from (now (pool .entry)))) ⌝ }
@@ -37,8 +30,8 @@ fn is_text(pool: &[u8], whole: bool, ends: &[u32], from: usize, len: usize) -> b
     if whole {
         return utf8::cut_well_formed(pool, from, len);
     }
-    if from < ends.len() {
-        return utf8::run_well_formed(pool, from, len, wide(ends[from]));
+    if pool.len() / 64 < ends.len() {
+        return utf8::run_well_formed(pool, ends, from, len);
     }
     utf8::part_well_formed(pool, from, len)
 }
@@ -282,12 +275,12 @@ fn judge_plain(deck: &[u8], pool: &[u8], whole: bool) -> Verdict
     judge_by(deck, pool, whole, &ends)
 }
 
-// The same of a pool that is not well formed as a whole: the table spares looking at a text once for each of its references.
+// The same of a pool that is not well formed as a whole: the table spares looking at a whole text once for each of its references.
 fn judge_torn(deck: &[u8], pool: &[u8]) -> Verdict
     requires { ⌜ (length (now pool) ≤ 65536) × (wellFormed (now pool) ≡ false) ⌝ }
     ensures { λ r. ⌜ r ≡ verdictOf (readDeck (now (deck .entry)) (now (pool .entry))) ⌝ }
 {
-    let mut ends = [0u32; 65537];
+    let mut ends = [0u32; 1025];
     utf8::mark_runs(pool, &mut ends);
     judge_by(deck, pool, false, &ends)
 }
