@@ -1,13 +1,9 @@
+-- `quoted::double_piece` meets its contract.
 use Rattle.quoted.proofs.Laws.{double-ascii, double-latin, double-wide, double-plain}
 use mathlib.Core.Path.{sym, _∙_}
 use borrow.Author.Needs.{needs}
 use Rattle.quoted.proofs.double_piece.Statement.{statement}
 use Rattle.quoted.proofs.double_piece.Tie as tie
-use Rattle.quoted.proofs.double_piece.Reads as reads
-use Rattle.quoted.proofs.double_piece.Lts as lts
-use Rattle.quoted.proofs.ascii_piece.Reads as ascii-piece-reads
-use Rattle.quoted.proofs.is_c1.Reads as is-c1-reads
-use Rattle.quoted.proofs.is_non.Reads as is-non-reads
 
 ascii-piece-requires : tie.Need-ascii-piece-requires
 ascii-piece-requires c κs = search needs

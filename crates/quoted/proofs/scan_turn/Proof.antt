@@ -1,14 +1,10 @@
+-- `quoted::scan_turn` meets its contract.
 use Rattle.quoted.proofs.Folds.{measured-skip, measured-piece}
 use Rattle.quoted.proofs.Laws.{zero-of}
 use native.Mathlib.Omega.{arith}
 use borrow.Author.Needs.{needs}
 use Rattle.quoted.proofs.scan_turn.Statement.{statement}
 use Rattle.quoted.proofs.scan_turn.Tie as tie
-use Rattle.quoted.proofs.scan_turn.Reads as reads
-use Rattle.quoted.proofs.scan_turn.Lts as lts
-use Rattle.quoted.proofs.columns.Reads as columns-reads
-use Rattle.quoted.proofs.others.Reads as others-reads
-use Rattle.quoted.proofs.piece_at.Reads as piece-at-reads
 
 sub-t8 : tie.Need-sub-t8
 sub-t8 c = search needs
