@@ -231,10 +231,10 @@ pub fn run_well_formed(s: &[u8], ends: &[u32], from: usize, len: usize) -> bool
     requires { ⌜ (from + len ≤ length (now s)) × (length (now s) < 64 * length (now ends)) × Runs (now s) 0 (now ends) ⌝ }
     ensures { λ r. ⌜ r ≡ wellFormed (take len (drop from (now (s .entry)))) ⌝ }
 {
-    if len == 0 {
+    let past = from + len;
+    if past == from {
         return true;
     }
-    let past = from + len;
     let end = run_end(s, ends, from / 64, from);
     if end < past {
         return false;
