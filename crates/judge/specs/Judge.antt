@@ -1,8 +1,12 @@
 -- What the judge makes of the definition's reading: a refusal as it is, else the cursor after it, or the number of trees. These are definitions.
 use Prim.Native.Nat.{ℕ, zero, suc, _+_, _≤_}
+use mathlib.Core.Path.{_≡_}
+use mathlib.Core.Bool.{Bool}
 use mathlib.Core.List.{List}
 use lib.ListN.{length}
 use Rattle.definition.specs.Base.{Bytes, if_then_else_}
+use Rattle.definition.specs.Utf8.{wellFormed}
+use Rattle.utf8.specs.Runs.{Runs}
 use Rattle.definition.specs.Records.{kindAt, sizeOf, recordAt}
 use Rattle.definition.specs.Tree.{Node}
 use Rattle.definition.specs.Deck.{Read, fault, got, isNode, readRecord}
@@ -11,6 +15,11 @@ use Rattle.judge.specs.declared.Step.{Step}
 use Rattle.judge.specs.declared.Step.the-variants as step
 use Rattle.judge.specs.declared.Verdict.{Verdict}
 use Rattle.judge.specs.declared.Verdict.the-variants as verdict
+
+-- what the judge knows of the pool: whether it is well formed as a whole, and where runs of whole characters end, as far as the table goes
+pub record Known (pool : Bytes) (whole : Bool) (ends : List ℕ) : Type 0 where
+  pub said : whole ≡ wellFormed pool
+  pub runs : Runs pool 0 ends
 
 -- what the judge is to answer: the refusal, or how many trees are read
 unfoldable pub verdictOf : Read (List Node) → Verdict

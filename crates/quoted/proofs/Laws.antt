@@ -21,6 +21,10 @@ use Rattle.quoted.specs.Piece.{spell, beside, letterOf, sound, Written, 
 use Rattle.quoted.specs.declared.Piece.{Piece}
 use Rattle.quoted.specs.declared.Piece.the-variants.{Plain, Pair, Hex, Latin, Wide}
 
+-- inside a text it does not matter what stands past its end
+pub any-default : (s : Bytes) (i d : ℕ) → i < length s → getD s i 0 ≡ getD s i d
+any-default s i d h = let x = drop-cons s i 0 h in let y = drop-cons s i d h in cc
+
 abbrev pub table : Bytes
 table = 48 ∷ 49 ∷ 50 ∷ 51 ∷ 52 ∷ 53 ∷ 54 ∷ 55 ∷ 56 ∷ 57 ∷ 97 ∷ 98 ∷ 99 ∷ 100 ∷ 101 ∷ 102 ∷ []
 

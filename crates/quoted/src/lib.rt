@@ -127,14 +127,14 @@ fn single_piece(a: u8) -> Piece
     Piece::Plain(a)
 }
 
-// The byte at a place, 0 past the end.
-fn at(t: &[u8], i: usize) -> u8
-    ensures { λ r. ⌜ r ≡ getD (now (t .entry)) i 0 ⌝ }
+// The byte at a place, `d` past the end.
+pub fn at_or(t: &[u8], i: usize, d: u8) -> u8
+    ensures { λ r. ⌜ r ≡ getD (now (t .entry)) i d ⌝ }
 {
     if i < t.len() {
         return t[i];
     }
-    0
+    d
 }
 
 // The piece of the body that is written for the byte at a place.
@@ -142,12 +142,12 @@ fn piece_at(t: &[u8], i: usize, single: bool) -> Piece
     requires { ⌜ (i < length (now t)) × (length (now t) ≤ 65536) ⌝ }
     ensures { λ r. ⌜ Stands (quoteBy single) (drop i (now (t .entry))) r ⌝ }
 {
-    let a = at(t, i);
+    let a = at_or(t, i, 0);
     if single {
         return single_piece(a);
     }
-    let b = at(t, i + 1);
-    let c = at(t, i + 2);
+    let b = at_or(t, i + 1, 0);
+    let c = at_or(t, i + 2, 0);
     double_piece(a, b, c)
 }
 

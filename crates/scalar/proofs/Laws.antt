@@ -23,10 +23,6 @@ use Rattle.laws.specs.Computed.{all}
 use Rattle.pen.specs.Pen.{Pen, put1, puts}
 use Rattle.scalar.specs.Tests.{someAt, refusedAt, flowMark, unsafeAt}
 
--- inside a text it does not matter what stands past its end
-pub any-default : (s : Bytes) (i d : ℕ) → i < length s → getD s i 0 ≡ getD s i d
-any-default s i d h = let x = drop-cons s i 0 h in let y = drop-cons s i d h in cc
-
 -- ---- a test at each place
 
 module _ (d : ℕ) (f : ℕ → ℕ → ℕ → Bool) (s : Bytes) (i : ℕ) (h : i < length s) where

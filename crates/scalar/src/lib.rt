@@ -19,22 +19,13 @@ use definition::Settings;
 use definition::Style;
 use pen::Writer;
 use pen::at_least_one;
+use quoted::at_or;
 use quoted::has_breakable;
 use quoted::is_c1;
 use quoted::is_non;
 use quoted::put_quoted;
 use quoted::put_styled;
 use quoted::will_fold;
-
-// The byte at a place, `d` past the end.
-fn at_or(t: &[u8], i: usize, d: u8) -> u8
-    ensures { λ r. ⌜ r ≡ getD (now (t .entry)) i d ⌝ }
-{
-    if i < t.len() {
-        return t[i];
-    }
-    d
-}
 
 // The text starts with U+FEFF.
 pub fn starts_bom(t: &[u8]) -> bool

@@ -1,10 +1,11 @@
 // Well-formed UTF-8, after the Unicode Standard, table 3-7.
 ghost use mathlib.Core.Path.{_≡_};
 ghost use mathlib.Core.Bool.{true, false};
-ghost use Prim.Native.Nat.{_+_, _≤_};
+ghost use Prim.Native.Nat.{_+_, _*_, _<_, _≤_};
 ghost use lib.ListN.{length, drop, take};
 ghost use Rattle.definition.specs.Utf8.{isFirst, due, low, high, wellFormed};
 ghost use Rattle.utf8.specs.Chars.{more, charLen, leadingOnes, boundary};
+ghost use Rattle.utf8.specs.Runs.{RunEnds, nextStart, Runs};
 
 // The number of leading ones of a byte: the leading zeros of its complement.
 pub fn leading_ones(b: u8) -> u32
@@ -157,4 +158,89 @@ pub fn cut_well_formed(s: &[u8], from: usize, len: usize) -> bool
         return is_boundary(s, from + len);
     }
     false
+}
+
+fn narrow(n: usize) -> u32
+    requires { ⌜ n ≤ 65536 ⌝ }
+    ensures { λ r. ⌜ r ≡ n ⌝ }
+{
+    n as u32
+}
+
+fn wide(n: u32) -> usize
+    ensures { λ r. ⌜ r ≡ n ⌝ }
+{
+    n as usize
+}
+
+// Where the first character begins that does not begin before a place.
+fn next_start(s: &[u8], at: usize) -> usize
+    requires { ⌜ at ≤ length (now s) ⌝ }
+    ensures { λ r. ⌜ r ≡ nextStart (now (s .entry)) at ⌝ }
+{
+    if is_boundary(s, at) {
+        return at;
+    }
+    if is_boundary(s, at + 1) {
+        return at + 1;
+    }
+    if is_boundary(s, at + 2) {
+        return at + 2;
+    }
+    at + 3
+}
+
+// Where the run of whole characters from a place ends: one character after another to the end of its block, then by a table of the later
+// blocks.
+fn run_end(s: &[u8], ends: &[u32], block: usize, at: usize) -> usize
+    requires { ⌜ (at ≤ length (now s)) × (64 * block ≤ at) × (at < 64 * block + 64) × (length (now s) < 64 * length (now ends)) ⌝ }
+    requires { ⌜ Runs (now s) (block + 1) (now ends) ⌝ }
+    ensures { λ r. ⌜ RunEnds (now (s .entry)) at r ⌝ }
+{
+    let limit = 64 * block + 64;
+    let mut i = at;
+    while i < limit {
+        let n = char_len(s, i);
+        if n == 0 {
+            return i;
+        }
+        i += n;
+    }
+    if is_boundary(s, i) {
+        return wide(ends[block + 1]);
+    }
+    i
+}
+
+// A table of where runs end, filled from the back.
+pub fn mark_runs(s: &[u8], ends: &mut [u32])
+    requires { ⌜ (length (now s) ≤ 65536) × (length (now s) < 64 * length (now ends)) ⌝ }
+    ensures { λ r. ⌜ Runs (now (s .entry)) 0 (now (ends .exit)) ⌝ }
+{
+    let mut left: usize = s.len() / 64 + 1;
+    while left > 0 {
+        left -= 1;
+        let at = next_start(s, 64 * left);
+        let end = narrow(run_end(s, ends, left, at));
+        ends[left] = end;
+    }
+}
+
+// Whether a part of a text is whole characters, by where the run from its start ends.
+pub fn run_well_formed(s: &[u8], ends: &[u32], from: usize, len: usize) -> bool
+    requires { ⌜ (from + len ≤ length (now s)) × (length (now s) < 64 * length (now ends)) × Runs (now s) 0 (now ends) ⌝ }
+    ensures { λ r. ⌜ r ≡ wellFormed (take len (drop from (now (s .entry)))) ⌝ }
+{
+    let past = from + len;
+    if past == from {
+        return true;
+    }
+    let end = run_end(s, ends, from / 64, from);
+    if end < past {
+        return false;
+    }
+    if end == past {
+        return true;
+    }
+    is_boundary(s, past)
 }

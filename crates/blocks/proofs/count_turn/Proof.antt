@@ -1,9 +1,8 @@
+-- `blocks::count_turn` meets its contract.
 use borrow.Author.Tests.{eq-eqb, ne-eqb}
 use borrow.Author.Needs.{needs}
 use Rattle.blocks.proofs.count_turn.Statement.{statement}
 use Rattle.blocks.proofs.count_turn.Tie as tie
-use Rattle.blocks.proofs.count_turn.Reads as reads
-use Rattle.blocks.proofs.count_turn.Lts as lts
 
 add-result : tie.Need-add-result
 add-result c = search needs

@@ -1,11 +1,8 @@
+-- `blocks::line_turn` meets its contract.
 use Rattle.blocks.proofs.Laws.{line-broken, line-begun, line-on}
 use borrow.Author.Needs.{needs}
 use Rattle.blocks.proofs.line_turn.Statement.{statement}
 use Rattle.blocks.proofs.line_turn.Tie as tie
-use Rattle.blocks.proofs.line_turn.Reads as reads
-use Rattle.blocks.proofs.line_turn.Lts as lts
-use Rattle.pen.proofs.Writer.byte.Reads as byte-reads
-use Rattle.pen.proofs.Writer.spaces.Reads as spaces-reads
 
 shared-slice-read-b : tie.Need-shared-slice-read-b
 shared-slice-read-b c = search needs

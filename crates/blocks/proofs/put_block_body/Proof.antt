@@ -1,3 +1,4 @@
+-- `blocks::put_block_body` meets its contract.
 use lib.ListN.{length}
 use Prim.Native.Nat.{_-_}
 use native.Mathlib.Omega.{arith}
@@ -5,15 +6,9 @@ use Rattle.blocks.proofs.Laws.{body-more, body-few}
 use borrow.Author.Needs.{needs}
 use Rattle.blocks.proofs.put_block_body.Statement.{statement}
 use Rattle.blocks.proofs.put_block_body.Tie as tie
-use Rattle.blocks.proofs.put_block_body.Reads as reads
-use Rattle.blocks.proofs.put_block_body.Lts as lts
-use Rattle.blocks.proofs.put_breaks.Reads as put-breaks-reads
-use Rattle.blocks.proofs.put_lines.Reads as put-lines-reads
-use Rattle.blocks.proofs.trailing_breaks.Reads as trailing-breaks-reads
-use Rattle.pen.proofs.Writer.byte.Reads as byte-reads
 
 trailing-breaks-requires : tie.Need-trailing-breaks-requires
-trailing-breaks-requires c κs = search needs
+trailing-breaks-requires c κs = tt
 
 sub-end : tie.Need-sub-end
 sub-end c = search needs

@@ -1,3 +1,4 @@
+-- `blocks::put_breaks` meets its contract.
 use Rattle.blocks.proofs.Laws.{breaks-turn}
 use Rattle.pen.specs.Pen.{pen, puts}
 use lib.ListN.{length, replicate}
@@ -8,9 +9,6 @@ use Prim.Native.Nat.{ℕ, _+_, _*_, _≤_, _-_, max}
 use mathlib.Core.Path.{_≡_, refl, sym, ap, _∙_}
 use Rattle.blocks.proofs.put_breaks.Statement.{statement}
 use Rattle.blocks.proofs.put_breaks.Tie as tie
-use Rattle.blocks.proofs.put_breaks.Reads as reads
-use Rattle.blocks.proofs.put_breaks.Lts as lts
-use Rattle.pen.proofs.Writer.byte.Reads as byte-reads
 
 abbrev Inv-loop : tie.InvT-loop
 Inv-loop out₀ n w₀ left₀ out w left = (puts (replicate left 10) (pen w out) ≡ puts (replicate n 10) (pen w₀ out₀)) × (length out ≡ length out₀)

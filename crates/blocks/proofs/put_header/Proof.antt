@@ -1,16 +1,13 @@
+-- `blocks::put_header` meets its contract.
 use Rattle.blocks.proofs.Laws.{header-strip, header-keep, header-breaks, header-clip}
 use Rattle.pen.specs.Pen.{puts, and-then}
 use mathlib.Core.List.{[], _∷_}
 use borrow.Author.Needs.{needs}
 use Rattle.blocks.proofs.put_header.Statement.{statement}
 use Rattle.blocks.proofs.put_header.Tie as tie
-use Rattle.blocks.proofs.put_header.Reads as reads
-use Rattle.blocks.proofs.put_header.Lts as lts
-use Rattle.blocks.proofs.trailing_breaks.Reads as trailing-breaks-reads
-use Rattle.pen.proofs.Writer.byte.Reads as byte-reads
 
 trailing-breaks-requires : tie.Need-trailing-breaks-requires
-trailing-breaks-requires c κs = search needs
+trailing-breaks-requires c κs = tt
 
 byte-requires : tie.Need-byte-requires
 byte-requires c κs = search needs

@@ -1,3 +1,4 @@
+-- `blocks::put_lines` meets its contract.
 use Rattle.definition.specs.Block.{indented}
 use Rattle.pen.specs.Pen.{pen, puts}
 use lib.ListN.{length, drop, drop-of-length-le}
@@ -8,10 +9,6 @@ use Prim.Native.Nat.{ℕ, _+_, _*_, _≤_, _-_, max}
 use mathlib.Core.Path.{_≡_, refl, sym, ap, _∙_}
 use Rattle.blocks.proofs.put_lines.Statement.{statement}
 use Rattle.blocks.proofs.put_lines.Tie as tie
-use Rattle.blocks.proofs.put_lines.Reads as reads
-use Rattle.blocks.proofs.put_lines.Lts as lts
-use Rattle.blocks.proofs.line_turn.Reads as line-turn-reads
-use Rattle.pen.proofs.Writer.byte.Reads as byte-reads
 
 abbrev Inv-loop : tie.InvT-loop
 Inv-loop out₀ s indent g₀ i₀ out g i = (puts (indented indent (g .fresh) (drop i s)) (pen (g .w) out) ≡ puts (indented indent true s) (pen (g₀ .w) out₀)) × (i ≤ length s) × (length out ≡ length out₀)

@@ -1,3 +1,4 @@
+-- `blocks::trailing_breaks` meets its contract.
 use lib.ListN.{length, getD, drop, drop-of-length-le}
 use Rattle.blocks.proofs.Laws.{counted-on, counted-le}
 use Rattle.laws.specs.Trim.{counted, counted-all, trailing-le}
@@ -8,9 +9,6 @@ use Prim.Native.Nat.{ℕ, _+_, _*_, _≤_, _-_, max}
 use mathlib.Core.Path.{_≡_, refl, sym, ap, _∙_}
 use Rattle.blocks.proofs.trailing_breaks.Statement.{statement}
 use Rattle.blocks.proofs.trailing_breaks.Tie as tie
-use Rattle.blocks.proofs.trailing_breaks.Reads as reads
-use Rattle.blocks.proofs.trailing_breaks.Lts as lts
-use Rattle.blocks.proofs.count_turn.Reads as count-turn-reads
 
 abbrev Inv-loop : tie.InvT-loop
 Inv-loop s n₀ i₀ n i = (counted n (drop i s) ≡ counted 0 s) × (n ≤ i) × (i ≤ length s)

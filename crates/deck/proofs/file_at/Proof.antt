@@ -1,30 +1,30 @@
 -- `deck::file_at` meets its contract.
 use borrow.Author.Tests.{ne-eqb}
 use Rattle.definition.specs.Records.{fileAt}
-use borrow.Author.Needs.{needs}
+use native.Mathlib.Omega.{arith}
 use Rattle.deck.proofs.file_at.Statement.{statement}
 use Rattle.deck.proofs.file_at.Tie as tie
 
 byte-requires : tie.Need-byte-requires
-byte-requires c κs = search needs
+byte-requires c κs = tt
 
 add-word : tie.Need-add-word
-add-word c = search needs
+add-word c = omega (arith, (c .before .before .before .pre), (c .before .before .before .good))
 
 word-requires : tie.Need-word-requires
-word-requires c κs = search needs
+word-requires c κs = omega (arith, (c .before .before .before .pre))
 
 add-word-2 : tie.Need-add-word-2
-add-word-2 c = search needs
+add-word-2 c = omega (arith, (c .before .before .before .before .pre), (c .before .before .before .before .good))
 
 word-requires-2 : tie.Need-word-requires-2
-word-requires-2 c κs = search needs
+word-requires-2 c κs = omega (arith, (c .before .before .before .before .pre))
 
 mul-t10 : tie.Need-mul-t10
-mul-t10 c = search needs
+mul-t10 c = omega (arith, c .word2 .ensures .1)
 
 add-t11 : tie.Need-add-t11
-add-t11 c = search needs
+add-t11 c = omega (arith, c .before .word .ensures .1, c .word2 .ensures .1)
 
 returns : tie.Need-returns
 unfolding fileAt

@@ -1,27 +1,26 @@
 -- `deck::kids` meets its contract.
 use Rattle.deck.proofs.Laws.{kids-sequence, kids-mapping, kids-other}
 use native.Mathlib.Omega.{arith}
-use borrow.Author.Needs.{needs}
 use Rattle.deck.proofs.kids.Statement.{statement}
 use Rattle.deck.proofs.kids.Tie as tie
 
 kind-requires : tie.Need-kind-requires
-kind-requires c κs = search needs
+kind-requires c κs = tt
 
 add-word : tie.Need-add-word
-add-word c = search needs
+add-word c = omega (arith, (c .before .before .before .before .pre), (c .before .before .before .before .good))
 
 word-requires : tie.Need-word-requires
-word-requires c κs = search needs
+word-requires c κs = omega (arith, (c .before .before .before .before .pre))
 
 add-word-2 : tie.Need-add-word-2
-add-word-2 c = search needs
+add-word-2 c = omega (arith, (c .before .before .before .before .pre), (c .before .before .before .before .good))
 
 word-requires-2 : tie.Need-word-requires-2
-word-requires-2 c κs = search needs
+word-requires-2 c κs = omega (arith, (c .before .before .before .before .pre))
 
 mul-result : tie.Need-mul-result
-mul-result c = search needs
+mul-result c = omega (arith, c .word2 .ensures .1)
 
 returns : tie.Need-returns
 returns c = (kids-sequence (c .before .before .before .before .before .args .deck .now) (c .before .before .before .before .before .args .c) _ (c .before .before .before .kind .ensures .0) _ (c .word .ensures .0) (c .before .before .match .keys1), omega arith)

@@ -18,7 +18,7 @@ next-requires c κs = search needs
 
 returns : tie.Need-returns
 unfolding recordAt
-returns c = (cc, cc)
+returns c = (rw (← c .before .before .kind .ensures .0) (c .before .record-of .ensures), c .next .ensures .0)
 
 pub read-spec : {M : Type 1} → statement M
 read-spec =

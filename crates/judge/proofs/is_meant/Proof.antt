@@ -9,37 +9,37 @@ add-byte : tie.Need-add-byte
 add-byte c = search needs
 
 byte-requires : tie.Need-byte-requires
-byte-requires c κs = search needs
+byte-requires c κs = tt
 
 add-byte-2 : tie.Need-add-byte-2
 add-byte-2 c = search needs
 
 byte-requires-2 : tie.Need-byte-requires-2
-byte-requires-2 c κs = search needs
+byte-requires-2 c κs = tt
 
 add-byte-3 : tie.Need-add-byte-3
 add-byte-3 c = search needs
 
 byte-requires-3 : tie.Need-byte-requires-3
-byte-requires-3 c κs = search needs
+byte-requires-3 c κs = tt
 
 add-byte-4 : tie.Need-add-byte-4
 add-byte-4 c = search needs
 
 byte-requires-4 : tie.Need-byte-requires-4
-byte-requires-4 c κs = search needs
+byte-requires-4 c κs = tt
 
 add-byte-5 : tie.Need-add-byte-5
 add-byte-5 c = search needs
 
 byte-requires-5 : tie.Need-byte-requires-5
-byte-requires-5 c κs = search needs
+byte-requires-5 c κs = tt
 
 add-byte-6 : tie.Need-add-byte-6
 add-byte-6 c = search needs
 
 byte-requires-6 : tie.Need-byte-requires-6
-byte-requires-6 c κs = search needs
+byte-requires-6 c κs = tt
 
 returns : tie.Need-returns
 unfolding meant

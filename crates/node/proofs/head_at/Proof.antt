@@ -17,13 +17,13 @@ abbrev μ-loop : tie.MeasureT-loop
 μ-loop deck lead₀ here₀ left₀ lead here left = left
 
 no-lead-requires : tie.Need-no-lead-requires Inv-loop μ-loop
-no-lead-requires c κs = search needs
+no-lead-requires c κs = tt
 
 loop-holds : tie.Need-loop-holds Inv-loop μ-loop
 loop-holds c = (refl, c .before .before .pre .0, omega arith, small-none _ _ (c .no-lead .ensures))
 
 is-node-requires : tie.Need-is-node-requires Inv-loop μ-loop
-is-node-requires c κs = search needs
+is-node-requires c κs = tt
 
 head-with-requires : tie.Need-head-with-requires Inv-loop μ-loop
 head-with-requires c κs = c .before .before .before .loop .inv .1

@@ -19,7 +19,7 @@ loop-holds : tie.Need-loop-holds Inv-loop μ-loop
 loop-holds c = (refl, (c .before .pre))
 
 is-node-requires : tie.Need-is-node-requires Inv-loop μ-loop
-is-node-requires c κs = search needs
+is-node-requires c κs = tt
 
 returns : tie.Need-returns Inv-loop μ-loop
 returns c = own-stop (c .before .before .before .before .before .args .deck .now) (c .before .before .before .loop .left) _ _ (c .before .is-node .ensures) (c .if1 .taken) ∙ c .before .before .before .loop .inv .0 ∙ own-place (c .before .before .before .before .before .args .deck .now) (c .before .before .before .before .before .args .c)

@@ -8,19 +8,19 @@ enum-known-r : tie.Need-enum-known-r
 enum-known-r c = search needs
 
 with-tag-requires : tie.Need-with-tag-requires
-with-tag-requires c κs = search needs
+with-tag-requires c κs = tt
 
 enum-known-r-2 : tie.Need-enum-known-r-2
 enum-known-r-2 c = search needs
 
 with-anchor-requires : tie.Need-with-anchor-requires
-with-anchor-requires c κs = search needs
+with-anchor-requires c κs = tt
 
 enum-known-r-3 : tie.Need-enum-known-r-3
 enum-known-r-3 c = search needs
 
 with-origin-requires : tie.Need-with-origin-requires
-with-origin-requires c κs = search needs
+with-origin-requires c κs = tt
 
 enum-told : tie.Need-enum-told
 enum-told c = search needs
@@ -32,7 +32,7 @@ enum-known-r-4 : tie.Need-enum-known-r-4
 enum-known-r-4 c = search needs
 
 with-remark-requires : tie.Need-with-remark-requires
-with-remark-requires c κs = search needs
+with-remark-requires c κs = tt
 
 enum-told-2 : tie.Need-enum-told-2
 enum-told-2 c = search needs
@@ -44,7 +44,7 @@ enum-known-r-5 : tie.Need-enum-known-r-5
 enum-known-r-5 c = search needs
 
 with-raw-requires : tie.Need-with-raw-requires
-with-raw-requires c κs = search needs
+with-raw-requires c κs = tt
 
 enum-told-3 : tie.Need-enum-told-3
 enum-told-3 c = search needs
@@ -56,7 +56,7 @@ enum-known-r-6 : tie.Need-enum-known-r-6
 enum-known-r-6 c = search needs
 
 with-lines-requires : tie.Need-with-lines-requires
-with-lines-requires c κs = search needs
+with-lines-requires c κs = tt
 
 enum-told-4 : tie.Need-enum-told-4
 enum-told-4 c = search needs

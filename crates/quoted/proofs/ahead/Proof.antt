@@ -1,3 +1,4 @@
+-- `quoted::ahead` meets its contract.
 use Rattle.quoted.proofs.Folds.{measured-stop, measured-end}
 use Rattle.laws.specs.Folded.{aheadOf}
 use Rattle.laws.specs.Pieces.{quoteBy}
@@ -9,10 +10,6 @@ use Prim.Native.Nat.{ℕ, _+_, _*_, _≤_, _-_, max}
 use mathlib.Core.Path.{_≡_, refl, sym, ap, _∙_}
 use Rattle.quoted.proofs.ahead.Statement.{statement}
 use Rattle.quoted.proofs.ahead.Tie as tie
-use Rattle.quoted.proofs.ahead.Reads as reads
-use Rattle.quoted.proofs.ahead.Lts as lts
-use Rattle.quoted.proofs.scan_stops.Reads as scan-stops-reads
-use Rattle.quoted.proofs.scan_turn.Reads as scan-turn-reads
 
 abbrev Inv-loop : tie.InvT-loop
 Inv-loop s from single g₀ i₀ g i = (g .n + aheadOf (quoteBy single) (λ b. 1) (g .skip) (g .after) (drop i s) ≡ aheadOf (quoteBy single) (λ b. 1) 0 true (drop from s)) × (i ≤ length s) × (g .n ≤ 6 * i)

@@ -1,13 +1,10 @@
+-- `quoted::ascii_piece` meets its contract.
 use Rattle.quoted.proofs.Laws.{ascii-pair, ascii-low, ascii-del, ascii-plain}
-use borrow.Author.Needs.{needs}
 use Rattle.quoted.proofs.ascii_piece.Statement.{statement}
 use Rattle.quoted.proofs.ascii_piece.Tie as tie
-use Rattle.quoted.proofs.ascii_piece.Reads as reads
-use Rattle.quoted.proofs.ascii_piece.Lts as lts
-use Rattle.quoted.proofs.letter.Reads as letter-reads
 
 letter-requires : tie.Need-letter-requires
-letter-requires c κs = search needs
+letter-requires c κs = tt
 
 returns : tie.Need-returns
 returns c = ascii-pair _ _ (c .before .before .pre) (c .before .letter .ensures) (c .if1 .taken)

@@ -1,13 +1,9 @@
+-- `quoted::body_turn` meets its contract.
 use Rattle.quoted.proofs.Laws.{skips, turn, zero-of}
 use mathlib.Core.Path.{refl}
 use borrow.Author.Needs.{needs}
 use Rattle.quoted.proofs.body_turn.Statement.{statement}
 use Rattle.quoted.proofs.body_turn.Tie as tie
-use Rattle.quoted.proofs.body_turn.Reads as reads
-use Rattle.quoted.proofs.body_turn.Lts as lts
-use Rattle.quoted.proofs.others.Reads as others-reads
-use Rattle.quoted.proofs.piece_at.Reads as piece-at-reads
-use Rattle.quoted.proofs.put_piece.Reads as put-piece-reads
 
 sub-t11 : tie.Need-sub-t11
 sub-t11 c = search needs
@@ -22,7 +18,7 @@ put-piece-requires : tie.Need-put-piece-requires
 put-piece-requires c κs = search needs
 
 others-requires : tie.Need-others-requires
-others-requires c κs = search needs
+others-requires c κs = tt
 
 same-length : tie.Need-same-length
 same-length c = search needs

@@ -1,10 +1,9 @@
+-- `quoted::breakable_at` meets its contract.
 use Rattle.quoted.proofs.Folds.{break-after, break-other, break-inside, break-last}
 use Prim.Native.Nat.{_+_}
 use borrow.Author.Needs.{needs}
 use Rattle.quoted.proofs.breakable_at.Statement.{statement}
 use Rattle.quoted.proofs.breakable_at.Tie as tie
-use Rattle.quoted.proofs.breakable_at.Reads as reads
-use Rattle.quoted.proofs.breakable_at.Lts as lts
 
 returns : tie.Need-returns
 returns c = break-after _ _ _ (c .if1 .taken)

@@ -1,11 +1,10 @@
+-- `quoted::columns` meets its contract.
 use native.Mathlib.Omega.{arith}
 use Rattle.definition.specs.Quote.{hex2, hex4}
 use Rattle.definition.specs.Fold.{size}
 use borrow.Author.Needs.{needs}
 use Rattle.quoted.proofs.columns.Statement.{statement}
 use Rattle.quoted.proofs.columns.Tie as tie
-use Rattle.quoted.proofs.columns.Reads as reads
-use Rattle.quoted.proofs.columns.Lts as lts
 
 enum-told : tie.Need-enum-told
 enum-told c = search needs

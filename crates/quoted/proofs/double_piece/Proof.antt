@@ -1,13 +1,9 @@
+-- `quoted::double_piece` meets its contract.
 use Rattle.quoted.proofs.Laws.{double-ascii, double-latin, double-wide, double-plain}
 use mathlib.Core.Path.{sym, _∙_}
 use borrow.Author.Needs.{needs}
 use Rattle.quoted.proofs.double_piece.Statement.{statement}
 use Rattle.quoted.proofs.double_piece.Tie as tie
-use Rattle.quoted.proofs.double_piece.Reads as reads
-use Rattle.quoted.proofs.double_piece.Lts as lts
-use Rattle.quoted.proofs.ascii_piece.Reads as ascii-piece-reads
-use Rattle.quoted.proofs.is_c1.Reads as is-c1-reads
-use Rattle.quoted.proofs.is_non.Reads as is-non-reads
 
 ascii-piece-requires : tie.Need-ascii-piece-requires
 ascii-piece-requires c κs = search needs
@@ -16,13 +12,13 @@ returns : tie.Need-returns
 returns c = double-ascii _ _ _ _ (c .before .if1 .taken) (c .ascii-piece .ensures)
 
 is-c1-requires : tie.Need-is-c1-requires
-is-c1-requires c κs = search needs
+is-c1-requires c κs = tt
 
 returns-2 : tie.Need-returns-2
 returns-2 c = double-latin _ _ _ (c .before .before .if1 .left) (sym (c .before .is-c1 .ensures) ∙ c .if2 .taken)
 
 is-non-requires : tie.Need-is-non-requires
-is-non-requires c κs = search needs
+is-non-requires c κs = tt
 
 returns-3 : tie.Need-returns-3
 returns-3 c = double-wide _ _ _ (c .before .before .before .before .if1 .left) (sym (c .before .before .before .is-c1 .ensures) ∙ c .before .before .if2 .left) (sym (c .before .is-non .ensures) ∙ c .if3 .taken)

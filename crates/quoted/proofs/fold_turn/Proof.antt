@@ -1,3 +1,4 @@
+-- `quoted::fold_turn` meets its contract.
 use Rattle.quoted.proofs.Folds.{fold-skip}
 use Rattle.quoted.proofs.Laws.{zero-of}
 use native.Mathlib.Omega.{arith}
@@ -6,11 +7,6 @@ use Rattle.quoted.specs.Piece.{folding}
 use borrow.Author.Needs.{needs}
 use Rattle.quoted.proofs.fold_turn.Statement.{statement}
 use Rattle.quoted.proofs.fold_turn.Tie as tie
-use Rattle.quoted.proofs.fold_turn.Reads as reads
-use Rattle.quoted.proofs.fold_turn.Lts as lts
-use Rattle.quoted.proofs.breakable_at.Reads as breakable-at-reads
-use Rattle.quoted.proofs.fold_gap.Reads as fold-gap-reads
-use Rattle.quoted.proofs.fold_piece.Reads as fold-piece-reads
 
 sub-t10 : tie.Need-sub-t10
 sub-t10 c = search needs

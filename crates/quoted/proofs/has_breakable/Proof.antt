@@ -1,3 +1,4 @@
+-- `quoted::has_breakable` meets its contract.
 use Rattle.quoted.proofs.Folds.{breaks-here, breaks-on}
 use Rattle.definition.specs.Fold.{breakableIn, hasBreakable}
 use lib.ListN.{length, drop, drop-of-length-le}
@@ -8,9 +9,6 @@ use Prim.Native.Nat.{ℕ, _+_, _*_, _≤_, _-_, max}
 use mathlib.Core.Path.{_≡_, refl, sym, ap, _∙_}
 use Rattle.quoted.proofs.has_breakable.Statement.{statement}
 use Rattle.quoted.proofs.has_breakable.Tie as tie
-use Rattle.quoted.proofs.has_breakable.Reads as reads
-use Rattle.quoted.proofs.has_breakable.Lts as lts
-use Rattle.quoted.proofs.breakable_at.Reads as breakable-at-reads
 
 abbrev Inv-loop : tie.InvT-loop
 Inv-loop s after₀ i₀ after i = (breakableIn after (drop i s) ≡ breakableIn true s) × (i ≤ length s)

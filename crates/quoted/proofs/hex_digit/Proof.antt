@@ -1,9 +1,8 @@
+-- `quoted::hex_digit` meets its contract.
 use Rattle.quoted.proofs.Laws.{digits}
 use borrow.Author.Needs.{needs}
 use Rattle.quoted.proofs.hex_digit.Statement.{statement}
 use Rattle.quoted.proofs.hex_digit.Tie as tie
-use Rattle.quoted.proofs.hex_digit.Reads as reads
-use Rattle.quoted.proofs.hex_digit.Lts as lts
 
 element-copy-out-result : tie.Need-element-copy-out-result
 element-copy-out-result c = search needs

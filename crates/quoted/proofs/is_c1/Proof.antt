@@ -1,8 +1,7 @@
+-- `quoted::is_c1` meets its contract.
 use Rattle.quoted.proofs.Laws.{c1-other, c1-low, c1-next-line, c1-high}
 use Rattle.quoted.proofs.is_c1.Statement.{statement}
 use Rattle.quoted.proofs.is_c1.Tie as tie
-use Rattle.quoted.proofs.is_c1.Reads as reads
-use Rattle.quoted.proofs.is_c1.Lts as lts
 
 returns : tie.Need-returns
 returns c = c1-other _ _ (c .if1 .taken)

@@ -1,8 +1,7 @@
+-- `quoted::is_non` meets its contract.
 use Rattle.quoted.proofs.Laws.{non-first, non-second, non-low, non-high}
 use Rattle.quoted.proofs.is_non.Statement.{statement}
 use Rattle.quoted.proofs.is_non.Tie as tie
-use Rattle.quoted.proofs.is_non.Reads as reads
-use Rattle.quoted.proofs.is_non.Lts as lts
 
 returns : tie.Need-returns
 returns c = non-first _ _ _ (c .if1 .taken)

@@ -1,9 +1,8 @@
+-- `quoted::letter` meets its contract.
 use borrow.Author.Tests.{ne-eqb}
 use Rattle.quoted.specs.Piece.{letterOf}
 use Rattle.quoted.proofs.letter.Statement.{statement}
 use Rattle.quoted.proofs.letter.Tie as tie
-use Rattle.quoted.proofs.letter.Reads as reads
-use Rattle.quoted.proofs.letter.Lts as lts
 
 returns : tie.Need-returns
 unfolding letterOf

@@ -1,3 +1,4 @@
+-- `quoted::put_body` meets its contract.
 use Rattle.laws.specs.Pieces.{quoteBy, body}
 use Rattle.pen.specs.Pen.{pen, puts}
 use lib.ListN.{length, drop, drop-of-length-le}
@@ -8,9 +9,6 @@ use Prim.Native.Nat.{ℕ, _+_, _*_, _≤_, _-_, max}
 use mathlib.Core.Path.{_≡_, refl, sym, ap, _∙_}
 use Rattle.quoted.proofs.put_body.Statement.{statement}
 use Rattle.quoted.proofs.put_body.Tie as tie
-use Rattle.quoted.proofs.put_body.Reads as reads
-use Rattle.quoted.proofs.put_body.Lts as lts
-use Rattle.quoted.proofs.body_turn.Reads as body-turn-reads
 
 abbrev Inv-loop : tie.InvT-loop
 Inv-loop out₀ s single g₀ i₀ out g i = (puts (body (quoteBy single) (g .skip) (drop i s)) (pen (g .w) out) ≡ puts (body (quoteBy single) 0 s) (pen (g₀ .w) out₀)) × (i ≤ length s) × (length out ≡ length out₀)

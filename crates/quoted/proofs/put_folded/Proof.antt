@@ -1,3 +1,4 @@
+-- `quoted::put_folded` meets its contract.
 use Rattle.quoted.specs.Piece.{folding}
 use Rattle.laws.specs.Folded.{foldedOf}
 use Rattle.laws.specs.Pieces.{quoteBy}
@@ -10,9 +11,6 @@ use Prim.Native.Nat.{ℕ, _+_, _*_, _≤_, _-_, max}
 use mathlib.Core.Path.{_≡_, refl, sym, ap, _∙_}
 use Rattle.quoted.proofs.put_folded.Statement.{statement}
 use Rattle.quoted.proofs.put_folded.Tie as tie
-use Rattle.quoted.proofs.put_folded.Reads as reads
-use Rattle.quoted.proofs.put_folded.Lts as lts
-use Rattle.quoted.proofs.fold_turn.Reads as fold-turn-reads
 
 abbrev Inv-loop : tie.InvT-loop
 Inv-loop out₀ s single start f l₀ i₀ out l i = (puts (foldedOf (quoteBy single) (folding f) (l .skip) (l .after) (l .col) (drop i s)) (pen (l .w) out) ≡ puts (foldedOf (quoteBy single) (folding f) 0 true start s) (pen (l₀ .w) out₀)) × (i ≤ length s) × (length out ≡ length out₀) × (l .col ≤ max start (f .indent) + 6 * i)

@@ -1,11 +1,8 @@
+-- `quoted::put_hex2` meets its contract.
 use Rattle.definition.specs.Quote.{hex2}
 use borrow.Author.Needs.{needs}
 use Rattle.quoted.proofs.put_hex2.Statement.{statement}
 use Rattle.quoted.proofs.put_hex2.Tie as tie
-use Rattle.quoted.proofs.put_hex2.Reads as reads
-use Rattle.quoted.proofs.put_hex2.Lts as lts
-use Rattle.quoted.proofs.hex_digit.Reads as hex-digit-reads
-use Rattle.quoted.proofs.put_pair.Reads as put-pair-reads
 
 hex-digit-requires : tie.Need-hex-digit-requires
 hex-digit-requires c κs = search needs

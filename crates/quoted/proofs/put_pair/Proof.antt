@@ -1,12 +1,10 @@
+-- `quoted::put_pair` meets its contract.
 use Rattle.pen.specs.Pen.{and-then}
 use Rattle.pen.specs.Pen.{puts}
 use mathlib.Core.List.{[], _∷_}
 use borrow.Author.Needs.{needs}
 use Rattle.quoted.proofs.put_pair.Statement.{statement}
 use Rattle.quoted.proofs.put_pair.Tie as tie
-use Rattle.quoted.proofs.put_pair.Reads as reads
-use Rattle.quoted.proofs.put_pair.Lts as lts
-use Rattle.pen.proofs.Writer.byte.Reads as byte-reads
 
 byte-requires : tie.Need-byte-requires
 byte-requires c κs = search needs

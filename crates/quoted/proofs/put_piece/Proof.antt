@@ -1,13 +1,8 @@
+-- `quoted::put_piece` meets its contract.
 use Rattle.pen.specs.Pen.{puts}
 use borrow.Author.Needs.{needs}
 use Rattle.quoted.proofs.put_piece.Statement.{statement}
 use Rattle.quoted.proofs.put_piece.Tie as tie
-use Rattle.quoted.proofs.put_piece.Reads as reads
-use Rattle.quoted.proofs.put_piece.Lts as lts
-use Rattle.pen.proofs.Writer.byte.Reads as byte-reads
-use Rattle.quoted.proofs.put_pair.Reads as put-pair-reads
-use Rattle.quoted.proofs.put_u.Reads as put-u-reads
-use Rattle.quoted.proofs.put_x.Reads as put-x-reads
 
 enum-known-p : tie.Need-enum-known-p
 enum-known-p c = search needs

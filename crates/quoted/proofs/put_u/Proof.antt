@@ -1,13 +1,10 @@
+-- `quoted::put_u` meets its contract.
 use Rattle.pen.specs.Pen.{and-then}
 use mathlib.Core.List.{[], _∷_}
 use Rattle.quoted.proofs.Laws.{wide-digits}
 use borrow.Author.Needs.{needs}
 use Rattle.quoted.proofs.put_u.Statement.{statement}
 use Rattle.quoted.proofs.put_u.Tie as tie
-use Rattle.quoted.proofs.put_u.Reads as reads
-use Rattle.quoted.proofs.put_u.Lts as lts
-use Rattle.quoted.proofs.put_hex2.Reads as put-hex2-reads
-use Rattle.quoted.proofs.put_pair.Reads as put-pair-reads
 
 put-pair-requires : tie.Need-put-pair-requires
 put-pair-requires c κs = search needs

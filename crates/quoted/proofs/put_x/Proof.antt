@@ -1,12 +1,9 @@
+-- `quoted::put_x` meets its contract.
 use Rattle.pen.specs.Pen.{and-then}
 use mathlib.Core.List.{[], _∷_}
 use borrow.Author.Needs.{needs}
 use Rattle.quoted.proofs.put_x.Statement.{statement}
 use Rattle.quoted.proofs.put_x.Tie as tie
-use Rattle.quoted.proofs.put_x.Reads as reads
-use Rattle.quoted.proofs.put_x.Lts as lts
-use Rattle.quoted.proofs.put_hex2.Reads as put-hex2-reads
-use Rattle.quoted.proofs.put_pair.Reads as put-pair-reads
 
 put-pair-requires : tie.Need-put-pair-requires
 put-pair-requires c κs = search needs

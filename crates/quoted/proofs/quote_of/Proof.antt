@@ -1,8 +1,7 @@
+-- `quoted::quote_of` meets its contract.
 use Rattle.definition.specs.Scalar.{quoteOf}
 use Rattle.quoted.proofs.quote_of.Statement.{statement}
 use Rattle.quoted.proofs.quote_of.Tie as tie
-use Rattle.quoted.proofs.quote_of.Reads as reads
-use Rattle.quoted.proofs.quote_of.Lts as lts
 
 returns : tie.Need-returns
 unfolding quoteOf

@@ -1,11 +1,9 @@
+-- `quoted::scan_stops` meets its contract.
 use Rattle.quoted.proofs.Folds.{stops-skips, stops-here}
 use native.Mathlib.Omega.{arith}
 use borrow.Author.Needs.{needs}
 use Rattle.quoted.proofs.scan_stops.Statement.{statement}
 use Rattle.quoted.proofs.scan_stops.Tie as tie
-use Rattle.quoted.proofs.scan_stops.Reads as reads
-use Rattle.quoted.proofs.scan_stops.Lts as lts
-use Rattle.quoted.proofs.breakable_at.Reads as breakable-at-reads
 
 returns : tie.Need-returns
 returns c = stops-skips _ _ _ (c .if1 .taken)

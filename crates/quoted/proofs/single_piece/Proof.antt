@@ -1,8 +1,7 @@
+-- `quoted::single_piece` meets its contract.
 use Rattle.quoted.proofs.Laws.{single-pair, single-plain}
 use Rattle.quoted.proofs.single_piece.Statement.{statement}
 use Rattle.quoted.proofs.single_piece.Tie as tie
-use Rattle.quoted.proofs.single_piece.Reads as reads
-use Rattle.quoted.proofs.single_piece.Lts as lts
 
 returns : tie.Need-returns
 returns c = single-pair _ (c .if1 .taken)

@@ -1,8 +1,7 @@
+-- `quoted::will_fold` meets its contract.
 use Rattle.definition.specs.Settings.{folds}
 use Rattle.quoted.proofs.will_fold.Statement.{statement}
 use Rattle.quoted.proofs.will_fold.Tie as tie
-use Rattle.quoted.proofs.will_fold.Reads as reads
-use Rattle.quoted.proofs.will_fold.Lts as lts
 
 returns : tie.Need-returns
 unfolding folds

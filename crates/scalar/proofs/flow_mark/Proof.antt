@@ -1,10 +1,9 @@
+-- `scalar::flow_mark` meets its contract.
 use mathlib.Core.Path.{sym}
 use Rattle.scalar.specs.Tests.{flowMark}
 use borrow.Author.Tests.{ne-eqb}
 use Rattle.scalar.proofs.flow_mark.Statement.{statement}
 use Rattle.scalar.proofs.flow_mark.Tie as tie
-use Rattle.scalar.proofs.flow_mark.Reads as reads
-use Rattle.scalar.proofs.flow_mark.Lts as lts
 
 returns : tie.Need-returns
 unfolding flowMark

@@ -1,12 +1,10 @@
+-- `scalar::line_full` meets its contract.
 use borrow.Author.Needs.{needs}
 use Rattle.scalar.proofs.line_full.Statement.{statement}
 use Rattle.scalar.proofs.line_full.Tie as tie
-use Rattle.scalar.proofs.line_full.Reads as reads
-use Rattle.scalar.proofs.line_full.Lts as lts
-use Rattle.quoted.proofs.will_fold.Reads as will-fold-reads
 
 will-fold-requires : tie.Need-will-fold-requires
-will-fold-requires c κs = search needs
+will-fold-requires c κs = tt
 
 add-result : tie.Need-add-result
 add-result c = search needs

@@ -1,15 +1,11 @@
+-- `scalar::must_quote` meets its contract.
 use Rattle.definition.specs.Scalar.{mustQuote}
 use borrow.Author.Needs.{needs}
 use Rattle.scalar.proofs.must_quote.Statement.{statement}
 use Rattle.scalar.proofs.must_quote.Tie as tie
-use Rattle.scalar.proofs.must_quote.Reads as reads
-use Rattle.scalar.proofs.must_quote.Lts as lts
-use Rattle.scalar.proofs.starts_bom.Reads as starts-bom-reads
-use Rattle.scalar.proofs.too_long.Reads as too-long-reads
-use Rattle.scalar.proofs.unsafe_here.Reads as unsafe-here-reads
 
 starts-bom-requires : tie.Need-starts-bom-requires
-starts-bom-requires c κs = search needs
+starts-bom-requires c κs = tt
 
 returns : tie.Need-returns
 unfolding mustQuote

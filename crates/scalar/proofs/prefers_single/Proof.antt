@@ -1,9 +1,7 @@
+-- `scalar::prefers_single` meets its contract.
 use borrow.Author.Needs.{needs}
 use Rattle.scalar.proofs.prefers_single.Statement.{statement}
 use Rattle.scalar.proofs.prefers_single.Tie as tie
-use Rattle.scalar.proofs.prefers_single.Reads as reads
-use Rattle.scalar.proofs.prefers_single.Lts as lts
-use Rattle.scalar.proofs.quotable.Reads as quotable-reads
 
 quotable-requires : tie.Need-quotable-requires
 quotable-requires c κs = search needs

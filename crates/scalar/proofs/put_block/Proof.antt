@@ -1,12 +1,8 @@
+-- `scalar::put_block` meets its contract.
 use Rattle.pen.specs.Pen.{and-then}
 use borrow.Author.Needs.{needs}
 use Rattle.scalar.proofs.put_block.Statement.{statement}
 use Rattle.scalar.proofs.put_block.Tie as tie
-use Rattle.scalar.proofs.put_block.Reads as reads
-use Rattle.scalar.proofs.put_block.Lts as lts
-use Rattle.blocks.proofs.put_block_body.Reads as put-block-body-reads
-use Rattle.blocks.proofs.put_header.Reads as put-header-reads
-use Rattle.quoted.proofs.put_quoted.Reads as put-quoted-reads
 
 put-quoted-requires : tie.Need-put-quoted-requires
 put-quoted-requires c κs = search needs

@@ -1,11 +1,8 @@
+-- `scalar::put_own` meets its contract.
 use Rattle.laws.specs.Leaf.{ownAt}
 use borrow.Author.Needs.{needs}
 use Rattle.scalar.proofs.put_own.Statement.{statement}
 use Rattle.scalar.proofs.put_own.Tie as tie
-use Rattle.scalar.proofs.put_own.Reads as reads
-use Rattle.scalar.proofs.put_own.Lts as lts
-use Rattle.quoted.proofs.put_styled.Reads as put-styled-reads
-use Rattle.scalar.proofs.prefers_single.Reads as prefers-single-reads
 
 prefers-single-requires : tie.Need-prefers-single-requires
 prefers-single-requires c κs = search needs

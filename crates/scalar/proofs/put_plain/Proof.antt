@@ -1,11 +1,7 @@
+-- `scalar::put_plain` meets its contract.
 use borrow.Author.Needs.{needs}
 use Rattle.scalar.proofs.put_plain.Statement.{statement}
 use Rattle.scalar.proofs.put_plain.Tie as tie
-use Rattle.scalar.proofs.put_plain.Reads as reads
-use Rattle.scalar.proofs.put_plain.Lts as lts
-use Rattle.pen.proofs.Writer.text.Reads as text-reads
-use Rattle.scalar.proofs.must_quote.Reads as must-quote-reads
-use Rattle.scalar.proofs.put_own.Reads as put-own-reads
 
 must-quote-requires : tie.Need-must-quote-requires
 must-quote-requires c κs = search needs

@@ -1,13 +1,9 @@
+-- `scalar::put_scalar` meets its contract.
 use Rattle.definition.specs.Scalar.{markerOf}
 use Rattle.laws.specs.Leaf.{scalarBytes, blockAt}
 use borrow.Author.Needs.{needs}
 use Rattle.scalar.proofs.put_scalar.Statement.{statement}
 use Rattle.scalar.proofs.put_scalar.Tie as tie
-use Rattle.scalar.proofs.put_scalar.Reads as reads
-use Rattle.scalar.proofs.put_scalar.Lts as lts
-use Rattle.quoted.proofs.put_styled.Reads as put-styled-reads
-use Rattle.scalar.proofs.put_block.Reads as put-block-reads
-use Rattle.scalar.proofs.put_plain.Reads as put-plain-reads
 
 enum-told : tie.Need-enum-told
 enum-told c = search needs

@@ -1,15 +1,10 @@
+-- `scalar::put_separator` meets its contract.
 use Rattle.scalar.proofs.Laws.{comma-break, comma-space}
 use Rattle.definition.specs.Settings.{weightOf}
 use Rattle.definition.specs.Scalar.{separator}
 use borrow.Author.Needs.{needs}
 use Rattle.scalar.proofs.put_separator.Statement.{statement}
 use Rattle.scalar.proofs.put_separator.Tie as tie
-use Rattle.scalar.proofs.put_separator.Reads as reads
-use Rattle.scalar.proofs.put_separator.Lts as lts
-use Rattle.pen.proofs.Writer.byte.Reads as byte-reads
-use Rattle.pen.proofs.Writer.spaces.Reads as spaces-reads
-use Rattle.pen.proofs.at_least_one.Reads as at-least-one-reads
-use Rattle.scalar.proofs.line_full.Reads as line-full-reads
 
 line-full-requires : tie.Need-line-full-requires
 line-full-requires c κs = search needs
@@ -21,7 +16,7 @@ byte-requires-2 : tie.Need-byte-requires-2
 byte-requires-2 c κs = search needs
 
 at-least-one-requires : tie.Need-at-least-one-requires
-at-least-one-requires c κs = search needs
+at-least-one-requires c κs = tt
 
 spaces-requires : tie.Need-spaces-requires
 spaces-requires c κs = search needs

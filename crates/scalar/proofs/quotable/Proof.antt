@@ -1,3 +1,4 @@
+-- `scalar::quotable` meets its contract.
 use borrow.Author.Needs.{needs}
 use mathlib.Core.Bool.{not}
 use Rattle.scalar.specs.Tests.{someAt, refusedAt}
@@ -7,9 +8,6 @@ use Prim.Native.Nat.{_≤_, _-_}
 use mathlib.Core.Path.{_≡_, sym, ap, _∙_}
 use Rattle.scalar.proofs.quotable.Statement.{statement}
 use Rattle.scalar.proofs.quotable.Tie as tie
-use Rattle.scalar.proofs.quotable.Reads as reads
-use Rattle.scalar.proofs.quotable.Lts as lts
-use Rattle.scalar.proofs.refused_at.Reads as refused-at-reads
 
 abbrev Inv-loop : tie.InvT-loop
 Inv-loop t i₀ i = (someAt 0 refusedAt (drop i t) ≡ someAt 0 refusedAt t) × (i ≤ length t)

@@ -1,18 +1,14 @@
+-- `scalar::refused` meets its contract.
 use borrow.Author.Tests.{lt-ltb, le-ltb, eq-eqb, ne-eqb}
 use Rattle.scalar.proofs.Laws.{refused-low, refused-high}
-use borrow.Author.Needs.{needs}
 use Rattle.scalar.proofs.refused.Statement.{statement}
 use Rattle.scalar.proofs.refused.Tie as tie
-use Rattle.scalar.proofs.refused.Reads as reads
-use Rattle.scalar.proofs.refused.Lts as lts
-use Rattle.quoted.proofs.is_c1.Reads as is-c1-reads
-use Rattle.quoted.proofs.is_non.Reads as is-non-reads
 
 is-c1-requires : tie.Need-is-c1-requires
-is-c1-requires c κs = search needs
+is-c1-requires c κs = tt
 
 is-non-requires : tie.Need-is-non-requires
-is-non-requires c κs = search needs
+is-non-requires c κs = tt
 
 returns : tie.Need-returns
 returns c = rw (← (refused-high (c .before .before .before .args .a) (c .before .before .before .args .b) (c .before .before .before .args .c) (c .before .before .if1 .taken)), ← (c .before .is-c1 .ensures), c .if2 .taken)

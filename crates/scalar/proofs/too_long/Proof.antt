@@ -1,15 +1,12 @@
+-- `scalar::too_long` meets its contract.
 use Rattle.scalar.proofs.Laws.{size-length}
 use borrow.Author.Tests.{lt-ltb, le-ltb, not-true, not-false}
 use borrow.Author.Needs.{needs}
 use Rattle.scalar.proofs.too_long.Statement.{statement}
 use Rattle.scalar.proofs.too_long.Tie as tie
-use Rattle.scalar.proofs.too_long.Reads as reads
-use Rattle.scalar.proofs.too_long.Lts as lts
-use Rattle.quoted.proofs.has_breakable.Reads as has-breakable-reads
-use Rattle.quoted.proofs.will_fold.Reads as will-fold-reads
 
 will-fold-requires : tie.Need-will-fold-requires
-will-fold-requires c κs = search needs
+will-fold-requires c κs = tt
 
 returns : tie.Need-returns
 returns c = rw (← (c .before .will-fold .ensures), not-true (c .before .will-fold .result) (c .if1 .taken))
@@ -21,7 +18,7 @@ returns-2 : tie.Need-returns-2
 returns-2 c = rw (← (c .before .before .before .will-fold .ensures), not-false (c .before .before .before .will-fold .result) (c .before .before .if1 .left), size-length, le-ltb _ _ (c .if2 .taken))
 
 has-breakable-requires : tie.Need-has-breakable-requires
-has-breakable-requires c κs = search needs
+has-breakable-requires c κs = tt
 
 returns-3 : tie.Need-returns-3
 returns-3 c = rw (← (c .before .before .before .before .will-fold .ensures), not-false (c .before .before .before .before .will-fold .result) (c .before .before .before .if1 .left), size-length, lt-ltb _ _ (c .before .if2 .left)) (c .has-breakable .ensures)

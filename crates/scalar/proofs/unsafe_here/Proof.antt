@@ -1,9 +1,7 @@
+-- `scalar::unsafe_here` meets its contract.
 use borrow.Author.Needs.{needs}
 use Rattle.scalar.proofs.unsafe_here.Statement.{statement}
 use Rattle.scalar.proofs.unsafe_here.Tie as tie
-use Rattle.scalar.proofs.unsafe_here.Reads as reads
-use Rattle.scalar.proofs.unsafe_here.Lts as lts
-use Rattle.scalar.proofs.unsafe_in_flow.Reads as unsafe-in-flow-reads
 
 unsafe-in-flow-requires : tie.Need-unsafe-in-flow-requires
 unsafe-in-flow-requires c κs = search needs

@@ -1,3 +1,4 @@
+-- `scalar::unsafe_in_flow` meets its contract.
 use borrow.Author.Needs.{needs}
 use Rattle.scalar.specs.Tests.{someAt, unsafeAt}
 use Rattle.scalar.proofs.Laws.{found, passed, unsafe-by}
@@ -6,9 +7,6 @@ use Prim.Native.Nat.{_≤_, _-_}
 use mathlib.Core.Path.{_≡_, sym, ap, _∙_}
 use Rattle.scalar.proofs.unsafe_in_flow.Statement.{statement}
 use Rattle.scalar.proofs.unsafe_in_flow.Tie as tie
-use Rattle.scalar.proofs.unsafe_in_flow.Reads as reads
-use Rattle.scalar.proofs.unsafe_in_flow.Lts as lts
-use Rattle.scalar.proofs.unsafe_at.Reads as unsafe-at-reads
 
 abbrev Inv-loop : tie.InvT-loop
 Inv-loop t i₀ i = (someAt 32 unsafeAt (drop i t) ≡ someAt 32 unsafeAt t) × (i ≤ length t)

@@ -9,16 +9,16 @@ use Rattle.deck.proofs.kids.Reads as kids-reads
 use Rattle.deck.proofs.next.Reads as next-reads
 use Rattle.judge.proofs.judge_lead.Reads as judge-lead-reads
 
-abbrev pub μ-judge-node : Measures 2 judge-node-kinds.ps ℕ
-μ-judge-node κs a = a .1 .1 .1 .1 .0
+abbrev pub μ-judge-node : Measures 3 judge-node-kinds.ps ℕ
+μ-judge-node κs a = a .1 .1 .1 .1 .1 .0
 
-abbrev pub judge-node-at : ℕ → In 2 judge-node-kinds.ps
+abbrev pub judge-node-at : ℕ → In 3 judge-node-kinds.ps
 judge-node-at t =
-    and 2 judge-node-kinds.ps (is 2 judge-node-kinds.ps μ-judge-node t) judge-node.Pre
+    and 3 judge-node-kinds.ps (is 3 judge-node-kinds.ps μ-judge-node t) judge-node.Pre
 
-abbrev pub judge-node-below : ℕ → In 2 judge-node-kinds.ps
+abbrev pub judge-node-below : ℕ → In 3 judge-node-kinds.ps
 judge-node-below t =
-    and 2 judge-node-kinds.ps (falls 2 judge-node-kinds.ps _<_ μ-judge-node t) judge-node.Pre
+    and 3 judge-node-kinds.ps (falls 3 judge-node-kinds.ps _<_ μ-judge-node t) judge-node.Pre
 
 abbrev pub judge-node-claims : ℕ → judge-node-lts.Claims
 judge-node-claims t = (

@@ -1,11 +1,10 @@
+-- `quoted::at_or` meets its contract.
 use mathlib.Core.Path.{sym}
 use lib.ListN.{List·getD-eq-default}
-use Rattle.scalar.proofs.Laws.{any-default}
+use Rattle.quoted.proofs.Laws.{any-default}
 use borrow.Author.Needs.{needs}
-use Rattle.scalar.proofs.at_or.Statement.{statement}
-use Rattle.scalar.proofs.at_or.Tie as tie
-use Rattle.scalar.proofs.at_or.Reads as reads
-use Rattle.scalar.proofs.at_or.Lts as lts
+use Rattle.quoted.proofs.at_or.Statement.{statement}
+use Rattle.quoted.proofs.at_or.Tie as tie
 
 shared-slice-read-result : tie.Need-shared-slice-read-result
 shared-slice-read-result c = search needs
