@@ -5,10 +5,16 @@ pub mod antt;
 pub mod calls;
 pub mod damage;
 pub mod deck;
+pub mod events;
 pub mod judge;
+pub mod kinds;
 pub mod leaves;
 pub mod random;
+pub mod reading;
+pub mod recipes;
 pub mod scratch;
+pub mod shrink;
+pub mod source;
 pub mod theorems;
 
 // emit_util, encode, roundtrip::ast and roundtrip::emit.
