@@ -2,10 +2,14 @@
 //! and the calls of document 01 around it. It says what the port must answer, for any input.
 
 pub mod antt;
+pub mod archive;
 pub mod calls;
 pub mod damage;
 pub mod deck;
+pub mod draws;
 pub mod events;
+pub mod extremes;
+pub mod fixed;
 pub mod judge;
 pub mod kinds;
 pub mod leaves;

@@ -49,7 +49,7 @@ fn rows() -> Vec<Row> {
             let (_, inside) = table.split_once("() {\n").unwrap();
             let inside = &inside[..inside.find("\n}").unwrap()];
             let calls = inside.split(";\n").filter(|line| line.contains("(b\""));
-            found.extend(calls.map(|line| row(line)));
+            found.extend(calls.map(row));
         }
     }
     found
@@ -256,7 +256,7 @@ fn separator(terms: &[Term]) -> Vec<u8> {
     let document = if key { pair.bytes(NULL) } else { pair };
     let whole = document.written(Call::EmitRoundtripDump(settings));
     let inside = whole.strip_prefix(&format!("[{first}")).unwrap();
-    inside[..inside.find('b').unwrap()].as_bytes().to_vec()
+    inside.as_bytes()[..inside.find('b').unwrap()].to_vec()
 }
 
 fn verdict(function: &str, terms: &[Term]) -> (String, String) {

@@ -2,13 +2,14 @@
 //! DIFFERENCES docs/DIFFERENCES.md. For each reader the last lines say how many documents agree, and each kind of difference with its count
 //! and its smallest example. The last line of all is `N differ, M unexplained`.
 
-use oracle::calls::Call;
+use oracle::calls::{Call, Settings};
 use oracle::deck::{self, Pooling};
+use oracle::encode::NullStyle;
 use oracle::kinds::{self, KINDS};
 use oracle::random::{lending, Rng};
 use oracle::reading::{self, Reader};
 use oracle::shrink::{smallest, Case};
-use oracle::{events, recipes, source};
+use oracle::{archive, events, recipes, source};
 use std::collections::BTreeMap;
 use std::process::exit;
 
@@ -23,14 +24,22 @@ fn main() {
     let page = std::fs::read_to_string(&words[1]).unwrap_or_else(|error| fail(&error.to_string()));
     let page: Vec<&str> = page.split_whitespace().collect();
     let page = page.join(" ");
-    for kind in KINDS.iter().filter(|kind| !page.contains(kind.words)) {
+    if let Some(kind) = KINDS.iter().find(|kind| !page.contains(kind.words)) {
         fail(&format!(
             "docs/DIFFERENCES.md does not say: {}.",
             kind.words
         ));
     }
     let wanted = words.get(4).map_or("", String::as_str);
-    println!("The bytes are {}.", source::NAME);
+    let all = Call::EmitRoundtripAllWith(NullStyle::Null);
+    let dump = Call::EmitRoundtripDump(Settings::default());
+    for call in [all, dump] {
+        println!(
+            "The bytes of {} are {}.",
+            archive::name(&call),
+            source::name(&call)
+        );
+    }
     let mut all = Found::default();
     for name in reading::NAMES
         .into_iter()
