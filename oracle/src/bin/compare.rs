@@ -1,4 +1,4 @@
-//! Compares the archive with the Rust: `compare SEED CASES`. Random decks come first, then decks at the limits. Every field of every outcome and
+//! Compares the archive with the Rust: `compare SEED CASES [FROM]`. Random decks come first, from number FROM on, then decks at the limits. Every field of every outcome and
 //! every byte of output and list is compared, also those that must stay as they were. The last line is `N compared, M differ`.
 
 use oracle::archive;
@@ -20,21 +20,28 @@ const MOST_SECONDS: u64 = 8;
 
 fn main() {
     let words: Vec<String> = std::env::args().skip(1).collect();
-    let [seed, cases] = &words[..] else {
-        fail("usage: compare SEED CASES");
+    let numbers: Vec<u64> = words.iter().map_while(|word| word.parse().ok()).collect();
+    let (seed, cases, from) = match numbers[..] {
+        [seed, cases] if words.len() == 2 => (seed, cases, 0),
+        [seed, cases, from] if words.len() == 3 => (seed, cases, from),
+        _ => fail("usage: compare SEED CASES [FROM], all numbers"),
     };
-    let (Ok(seed), Ok(cases)) = (seed.parse::<u64>(), cases.parse::<u64>()) else {
-        fail("SEED and CASES are numbers.");
-    };
+    // With SHOW each case is shown before it is run: the last one shown is one that did not return.
+    let show_all = std::env::var_os("SHOW").is_some();
     if archive::names().is_empty() {
         fail("No archive is linked: set RASSEMOK_ARCHIVE to librassemok.a and build again.");
     }
     println!("The archive has {}.", archive::names().join(", "));
     let mut count = Count::default();
     let begun = Instant::now();
-    for number in 0..cases {
+    for number in from..from + cases {
         let rng = &mut Rng::new(seed.wrapping_mul(0x1000_0000).wrapping_add(number));
-        count.try_one(&random(rng));
+        let case = random(rng);
+        if show_all {
+            println!("case {number}");
+            show_input(&case);
+        }
+        count.try_one(&case);
     }
     let seconds = begun.elapsed().as_secs();
     println!("{} at random, in {seconds} s", count.compared);
@@ -327,12 +334,18 @@ fn smaller_fields(case: &Case) -> Vec<Case> {
 }
 
 fn show(case: &Case) {
+    println!("differs:");
+    show_input(case);
     let lent = &case.lent;
-    println!("differs: {:?}", case.call);
-    println!("  deck {} pool {}", hex(&lent.deck), hex(&lent.pool));
-    println!("  room {} list {}", lent.output.len(), lent.list.len());
     tell("the Rust", &calls::outcome(&case.call, lent), lent);
     tell("the archive", &archive::outcome(&case.call, lent), lent);
+}
+
+fn show_input(case: &Case) {
+    let lent = &case.lent;
+    println!("  {:?}", case.call);
+    println!("  deck {} pool {}", hex(&lent.deck), hex(&lent.pool));
+    println!("  room {} list {}", lent.output.len(), lent.list.len());
 }
 
 fn tell(who: &str, outcome: &Outcome, lent: &Lent) {
