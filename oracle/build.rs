@@ -1,7 +1,18 @@
-//! Finds the Rust source of YAMLRocks and writes the declarations by which it is compiled, unchanged, into this library.
+//! Finds the Rust source of YAMLRocks and writes the declarations by which it is compiled, unchanged, into this library. Where RASSEMOK_ARCHIVE
+//! names the port's archive, it is linked, and the library is told which of the calls it has.
 
 use std::path::{Path, PathBuf};
 use std::{env, fs, process};
+
+/// The calls that an archive may have, each `rassemok_` and this.
+const CALLS: [&str; 6] = [
+    "emit_roundtrip",
+    "emit_roundtrip_with",
+    "emit_roundtrip_all_with",
+    "emit_roundtrip_dump",
+    "local_modified",
+    "collect_changed_include_changes",
+];
 
 /// Where the source lies when YAMLROCKS_SRC does not say so, seen from this package.
 const BESIDE: &str = "../../shared/docs/src";
@@ -28,6 +39,44 @@ fn main() {
     if let Err(error) = fs::write(out.join("yamlrocks.rs"), text) {
         fail(&format!("The declarations cannot be written: {error}."));
     }
+    link_archive();
+}
+
+/// Sets `archive` and, for each call that is there, `archive_has`.
+fn link_archive() {
+    println!("cargo:rerun-if-env-changed=RASSEMOK_ARCHIVE");
+    println!("cargo:rustc-check-cfg=cfg(archive)");
+    println!(
+        "cargo:rustc-check-cfg=cfg(archive_has, values({}))",
+        quoted(&CALLS)
+    );
+    let Some(path) = env::var_os("RASSEMOK_ARCHIVE").map(PathBuf::from) else {
+        return;
+    };
+    let named = path.file_name().is_some_and(|name| name == "librassemok.a");
+    let (Ok(bytes), Ok(path), true) = (fs::read(&path), path.canonicalize(), named) else {
+        fail(&format!(
+            "RASSEMOK_ARCHIVE is no file librassemok.a: {}.",
+            path.display()
+        ));
+    };
+    println!("cargo:rerun-if-changed={}", path.display());
+    println!("cargo:rustc-cfg=archive");
+    for call in CALLS {
+        // In tables of symbols a name ends with a zero.
+        let symbol = format!("rassemok_{call}\0").into_bytes();
+        if bytes.windows(symbol.len()).any(|window| window == symbol) {
+            println!("cargo:rustc-cfg=archive_has={call:?}");
+        }
+    }
+    let folder = path.parent().expect("a file has a folder");
+    println!("cargo:rustc-link-search=native={}", folder.display());
+    println!("cargo:rustc-link-lib=static=rassemok");
+}
+
+fn quoted(words: &[&str]) -> String {
+    let all: Vec<String> = words.iter().map(|word| format!("{word:?}")).collect();
+    all.join(", ")
 }
 
 /// Ends the build with a sentence.

@@ -181,7 +181,8 @@ fn dump_config(settings: &Settings) -> DumpConfig {
     }
 }
 
-fn over_settings(call: &Call) -> bool {
+/// Refusal 1. The Rust itself has no limits, and a step near the largest number is more than it can write.
+pub fn over_settings(call: &Call) -> bool {
     match call {
         Call::EmitRoundtripDump(settings) => {
             settings.indent > MOST_STEP || settings.width > MOST_WIDTH

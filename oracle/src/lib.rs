@@ -2,13 +2,23 @@
 //! and the calls of document 01 around it. It says what the port must answer, for any input.
 
 pub mod antt;
+pub mod archive;
 pub mod calls;
 pub mod damage;
 pub mod deck;
+pub mod draws;
+pub mod events;
+pub mod extremes;
+pub mod fixed;
 pub mod judge;
+pub mod kinds;
 pub mod leaves;
 pub mod random;
+pub mod reading;
+pub mod recipes;
 pub mod scratch;
+pub mod shrink;
+pub mod source;
 pub mod theorems;
 
 // emit_util, encode, roundtrip::ast and roundtrip::emit.

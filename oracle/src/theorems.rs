@@ -105,7 +105,7 @@ pub fn width(rng: &mut Rng, number: usize, longest: usize) -> Theorem {
 }
 
 /// A root, or the first of two flow items, an item, a value, a key, or a value in flow.
-fn placed(rng: &mut Rng, text: String) -> YamlNode {
+pub fn placed(rng: &mut Rng, text: String) -> YamlNode {
     let style = rng.one_of(&[
         ScalarStyle::Plain,
         ScalarStyle::SingleQuoted,

@@ -26,19 +26,22 @@ fn every_line_is_what_the_rust_writes() {
 
 /// All documents under plain settings, or one under the setting that stands before the deck.
 fn call_on(input: &str) -> (Call, &str) {
-    if let Some(deck) = input.strip_prefix("width 1 ") {
-        let settings = Settings {
-            width: 1,
-            ..Settings::default()
-        };
-        return (Call::EmitRoundtripDump(settings), deck);
-    }
-    if let Some(deck) = input.strip_prefix("explicit end ") {
-        let settings = Settings {
-            explicit_end: true,
-            ..Settings::default()
-        };
-        return (Call::EmitRoundtripDump(settings), deck);
+    let plain = Settings::default();
+    let settings = [
+        ("width 1 ", Settings { width: 1, ..plain }),
+        ("step 1 ", Settings { indent: 1, ..plain }),
+        (
+            "explicit end ",
+            Settings {
+                explicit_end: true,
+                ..plain
+            },
+        ),
+    ];
+    for (words, settings) in settings {
+        if let Some(deck) = input.strip_prefix(words) {
+            return (Call::EmitRoundtripDump(settings), deck);
+        }
     }
     (Call::EmitRoundtripAllWith(NullStyle::Null), input)
 }

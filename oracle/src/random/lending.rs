@@ -82,7 +82,11 @@ pub fn every_call(rng: &mut Rng) -> [Call; 6] {
 
 /// What the call is lent on this deck: exact rooms, one short, none, or ample ones.
 pub fn lent(rng: &mut Rng, call: &Call, deck: &Deck) -> Lent {
-    let written = calls::unbounded(call, &deck.deck, &deck.pool).unwrap_or_default();
+    let written = if calls::over_settings(call) {
+        calls::Written::default()
+    } else {
+        calls::unbounded(call, &deck.deck, &deck.pool).unwrap_or_default()
+    };
     let output = if call.is_lent_output() {
         room(rng, written.bytes.len()).min(calls::MOST_OUTPUT)
     } else {
