@@ -1,0 +1,285 @@
+-- Laws of documents.
+-- Assumes nothing.
+use mathlib.Core.Path.{_≡_, refl, sym, ap, _∙_}
+use Prim.Native.Nat.{ℕ, zero, suc, _-_, _<_, _≤_}
+use native.Mathlib.Omega.{arith}
+use mathlib.Core.Bool.{Bool, true, false, not, _&&_, true≢false}
+use mathlib.Core.List.{[], _∷_}
+use lib.ListN.{length, getD}
+use lib.Dec.{leb}
+use borrow.Author.Tests.{le-leb, lt-leb}
+use Rattle.definition.specs.Base.{Bytes, if_then_else_}
+use Rattle.definition.specs.Settings.{stepOf}
+use Rattle.definition.specs.Deck.{layoutOf}
+use Rattle.definition.specs.Tree.{Node, node, kept}
+use Rattle.definition.specs.Pen.{Script, _>>_, nothing}
+use Rattle.definition.specs.Walk.{heads, foots, props, propsLine, includeLine, inlined, content, contentOf, members}
+use Rattle.definition.specs.Document.{directives, body, bom, document, oneDocument, separation, laterDocuments, allDocuments}
+use Rattle.definition.specs.declared.Cursor.{Cursor}
+use Rattle.definition.specs.declared.Lines.{Lines}
+use Rattle.definition.specs.declared.Settings.{Settings}
+use Rattle.node.specs.declared.Held.{Held}
+use Rattle.node.specs.declared.Remark.{Remark}
+use Rattle.node.specs.Total.{keptOf, broughtOf, originOf, remarkOf, treesFrom, treesOf}
+use Rattle.node.specs.Ends.{Ends}
+use Rattle.pen.specs.Pen.{Pen, puts, ink}
+use Rattle.scripts.specs.Keep.{flow-of, key-of, length-of}
+use Rattle.parts.specs.Draws.{Draws}
+use Rattle.parts.specs.Lines.{closes, directed}
+use Rattle.spot.specs.declared.Body.{Body}
+use Rattle.spot.specs.declared.Body.the-variants as body
+use Rattle.spot.specs.declared.Spot.{Spot}
+use Rattle.spot.specs.Spot.{kindOf, endOf, keptIn, broughtIn, kindIn, endIn, nodeIn, spotAt, tree-value, tree-end}
+use Rattle.spot.specs.Good.{Good, good-at, countIn, few-at}
+use Rattle.atoms.specs.Atoms.{on}
+use Rattle.choices.specs.Choices.{blockIn, noneIn, includedIn, rootColumnIn, bareRootIn, block-is, included-is, root-column-is, bare-root-is}
+use Rattle.joints.specs.Entries.{nodeAt, nextAt}
+use Rattle.flow.specs.Ready.{Ready, Emits}
+use Rattle.document.specs.Begun.{Begun, begun-emits}
+use Rattle.document.specs.Pieces.{bomIn, startIn, stopIn, opened, separationIn, firstOf, laterOf, blockRoot, lineRoot, rootOf, bom-is, separation-is}
+
+pub spot-good : (deck : Bytes) (c : Cursor) (x : Spot) → c .at ≤ length deck → length deck ≤ 65536 → x ≡ spotAt deck c → Good deck x × (c .at ≤ x .place) × (x .place ≤ length deck)
+spot-good deck c x k b e = let g = good-at deck c k b in rw e (g .0, g .1, (let a = g .0 .ahead in let w = g .0 .within in omega (arith, a, w)))
+
+pub few-spot : (deck : Bytes) → ((k : ℕ) → getD deck k 0 < 256) → (c : Cursor) (x : Spot) → c .at ≤ length deck → x ≡ spotAt deck c → countIn (x .body) < 65536
+few-spot deck b c x k e = rw e (few-at deck b c k)
+
+on-zero : (n : ℕ) → n ≡ 0 → on n ≡ false
+unfolding on
+on-zero n e = rw e
+
+module _ (s : Settings) where
+  -- something drawn before
+  before :
+      (a b : Script) (c r : Cursor) {n l : ℕ} {P Q R : Pen} → Draws a P Q → Emits s b Q R n c r l → Emits s (a >> b) P R n c r l
+  unfolding ink
+  before a b c r d m = record { drawn = m .drawn ∙ ap (ink s b) (d .drawn s); next = m .next; onward = m .onward; within = m .within }
+
+  -- and after
+  pub one-whole :
+      (passed : Bool) (n : Node) (c r : Cursor) {k l : ℕ} {P Q R : Pen} → Emits s (firstOf s passed n) P Q k c r l → Draws (stopIn s) Q R
+      → Emits s (oneDocument s passed n) P R k c r l
+  unfolding ink firstOf oneDocument stopIn
+  one-whole passed n c r m z =
+      record { drawn = z .drawn s ∙ ap (ink s (stopIn s)) (m .drawn); next = m .next; onward = m .onward; within = m .within }
+
+module _ (s : Settings) (deck pool : Bytes) where
+  -- ---- a root
+
+  pub block-whole :
+      (x : Spot) (i : ℕ) (r : Cursor) {P₀ P₁ P₂ : Pen} → i ≡ rootColumnIn s (x .lead .lines) (x .lead .tag) (x .body)
+      → Draws (propsLine (broughtIn deck pool x)) P₀ P₁
+      → Emits s (members s i true (kindIn deck pool x)) P₁ P₂ (x .place) (endIn deck pool x) r (length deck)
+      → Emits s (blockRoot s deck pool x) P₀ P₂ (x .place) (endIn deck pool x) r (length deck)
+  unfolding ink blockRoot
+  block-whole x i r e d m =
+      record {
+        drawn = rw (root-column-is s deck pool (x .lead) (x .body) (x .next), ← e) (m .drawn ∙ ap (ink s (members s i true (kindIn deck pool x))) (d .drawn s));
+        next = m .next;
+        onward = m .onward;
+        within = m .within;
+      }
+
+  pub line-whole :
+      (x : Spot) (i : ℕ) (r : Cursor) {P₀ P₁ P₂ P₃ : Pen} → P₀ .w .flow ≡ 0 → P₀ .w .key ≡ 0 → i ≡ stepOf s
+      → Draws (props (broughtIn deck pool x)) P₀ P₁
+      → Emits s (contentOf s (on (P₁ .w .flow)) (on (P₁ .w .key)) i (x .place) (keptIn deck pool x) (broughtIn deck pool x) (kindIn deck pool x)) P₁ P₂ (x .place) (endIn deck pool x) r (length deck)
+      → Draws (closes (x .place) (remarkOf pool (x .lead .remark))) P₂ P₃
+      → Emits s (lineRoot s deck pool x) P₀ P₃ (x .place) (endIn deck pool x) r (length deck)
+  unfolding ink lineRoot inlined closes keptOf
+  line-whole x i r {P₀} {P₁} {P₂} f k e d m z =
+      let y = d .drawn s in
+      let f₁ : on (P₁ .w .flow) ≡ false = on-zero (P₁ .w .flow) (flow-of s (props (broughtIn deck pool x)) P₀ P₁ y ∙ f) in
+      let k₁ : on (P₁ .w .key) ≡ false = on-zero (P₁ .w .key) (key-of s (props (broughtIn deck pool x)) P₀ P₁ y ∙ k) in
+      let a : Script = contentOf s false false (stepOf s) (x .place) (keptIn deck pool x) (broughtIn deck pool x) (kindIn deck pool x) in
+      let u : P₂ ≡ ink s a P₁ = rw (f₁, k₁, e) at (m .drawn) in
+      record {
+        drawn = z .drawn s ∙ ap (ink s (closes (x .place) (remarkOf pool (x .lead .remark)))) (u ∙ ap (ink s a) y);
+        next = m .next;
+        onward = m .onward;
+        within = m .within;
+      }
+
+  abbrev bodyIn : Spot → Script
+  bodyIn x = body s (nodeIn deck pool x)
+
+  pub body-block :
+      (x : Spot) (r : Cursor) {P Q : Pen} → blockIn (x .body) ≡ true → Emits s (blockRoot s deck pool x) P Q (x .place) (endIn deck pool x) r (length deck)
+      → Emits s (bodyIn x) P Q (x .place) (endIn deck pool x) r (length deck)
+  unfolding body nodeIn blockRoot
+  body-block x r t m =
+      record { drawn = rw (block-is deck pool (x .body) (x .next), t) (m .drawn); next = m .next; onward = m .onward; within = m .within }
+
+  -- a bare root has no children
+  bare-end : (l : Lines) (m : Remark) (t a : Held) (b : Body) (c : Cursor) → bareRootIn s l m t a b ≡ true → endOf deck pool b c ≡ c
+  unfolding bareRootIn noneIn endOf
+  bare-end l m t a body.Null c h = refl
+  bare-end l m t a (body.Scalar w) c h = refl
+  bare-end l m t a (body.Alias w) c h = refl
+  bare-end l m t a (body.Sequence g) c h = absurd (true≢false (sym h))
+  bare-end l m t a (body.Mapping g) c h = absurd (true≢false (sym h))
+
+  pub body-bare :
+      (x : Spot) {P Q : Pen} → Good deck x → blockIn (x .body) ≡ false
+      → bareRootIn s (x .lead .lines) (x .lead .remark) (x .lead .tag) (x .lead .anchor) (x .body) ≡ true
+      → Draws (propsLine (broughtIn deck pool x)) P Q → Emits s (bodyIn x) P Q (x .place) (endIn deck pool x) (x .next) (length deck)
+  unfolding body nodeIn
+  body-bare x g t h d =
+      record {
+        drawn = rw (block-is deck pool (x .body) (x .next), t, bare-root-is s deck pool (x .lead) (x .body) (x .next), h) (d .drawn s);
+        next = sym (bare-end _ _ _ _ (x .body) (x .next) h);
+        onward = g .ahead;
+        within = g .within;
+      }
+
+  pub body-line :
+      (x : Spot) (r : Cursor) {P Q : Pen} → blockIn (x .body) ≡ false
+      → bareRootIn s (x .lead .lines) (x .lead .remark) (x .lead .tag) (x .lead .anchor) (x .body) ≡ false
+      → Emits s (lineRoot s deck pool x) P Q (x .place) (endIn deck pool x) r (length deck)
+      → Emits s (bodyIn x) P Q (x .place) (endIn deck pool x) r (length deck)
+  unfolding body nodeIn lineRoot content
+  body-line x r t h m =
+      record {
+        drawn = rw (block-is deck pool (x .body) (x .next), t, bare-root-is s deck pool (x .lead) (x .body) (x .next), h) (m .drawn);
+        next = m .next;
+        onward = m .onward;
+        within = m .within;
+      }
+
+  pub root-directed :
+      (passed : Bool) (c r : Cursor) (x : Spot) {P Q : Pen} → (includedIn (x .lead .origin) && not passed) ≡ true
+      → Draws (directed (x .place) (originOf pool (x .lead .origin)) (remarkOf pool (x .lead .remark))) P Q → Ends deck c r
+      → Emits s (rootOf s deck pool passed x) P Q (c .at) (nextAt deck pool c) r (length deck)
+  unfolding rootOf includeLine directed keptOf
+  root-directed passed c r x t d e = record { drawn = rw t (d .drawn s); next = e .tree pool; onward = e .onward; within = e .within }
+
+  pub root-body :
+      (passed : Bool) (c r : Cursor) (x : Spot) {P Q : Pen} → c .at ≤ length deck → length deck ≤ 65536 → x ≡ spotAt deck c
+      → (includedIn (x .lead .origin) && not passed) ≡ false → Emits s (bodyIn x) P Q (x .place) (endIn deck pool x) r (length deck)
+      → Emits s (rootOf s deck pool passed x) P Q (c .at) (nextAt deck pool c) r (length deck)
+  unfolding rootOf
+  root-body passed c r x k b e t m =
+      let g = spot-good deck c x k b e in
+      let o = m .onward in
+      record {
+        drawn = rw t (m .drawn);
+        next = m .next ∙ rw (tree-end deck pool c k, ← e);
+        onward = omega (arith, o, g .1);
+        within = m .within;
+      }
+
+  -- ---- a document
+
+  node-is : (c : Cursor) (x : Spot) → c .at ≤ length deck → x ≡ spotAt deck c → nodeAt deck pool c ≡ nodeIn deck pool x
+  node-is c x k e = tree-value deck pool c k ∙ ap (nodeIn deck pool) (sym e)
+
+  document-is :
+      (passed : Bool) (x : Spot) →
+      document s passed (nodeIn deck pool x)
+      ≡ (directives (keptIn deck pool x .directives) >> startIn (x .lead .lines .marks) >> heads (keptIn deck pool x) 0 >> rootOf s deck pool passed x >> foots (keptIn deck pool x) 0)
+  unfolding document nodeIn keptOf layoutOf startIn rootOf
+  document-is passed x = rw (included-is deck pool (x .lead))
+
+  pub document-whole :
+      (passed : Bool) (c r : Cursor) (x : Spot) {P₀ P₁ P₂ P₃ : Pen} → c .at ≤ length deck → x ≡ spotAt deck c
+      → Draws (opened deck pool (x .lead)) P₀ P₁
+      → Emits s (rootOf s deck pool passed x) P₁ P₂ (c .at) (nextAt deck pool c) r (length deck)
+      → Draws (foots (keptIn deck pool x) 0) P₂ P₃
+      → Emits s (document s passed (nodeAt deck pool c)) P₀ P₃ (c .at) (nextAt deck pool c) r (length deck)
+  unfolding ink opened
+  document-whole passed c r x k e d m z =
+      record {
+        drawn = rw (node-is c x k e, document-is passed x) (z .drawn s ∙ ap (ink s (foots (keptIn deck pool x) 0)) (m .drawn ∙ ap (ink s (rootOf s deck pool passed x)) (d .drawn s)));
+        next = m .next;
+        onward = m .onward;
+        within = m .within;
+      }
+
+  pub first-whole :
+      (passed : Bool) (c r : Cursor) (x : Spot) {P Q R : Pen} → c .at ≤ length deck → x ≡ spotAt deck c → Draws (bomIn (x .lead .lines .marks)) P Q
+      → Emits s (document s passed (nodeAt deck pool c)) Q R (c .at) (nextAt deck pool c) r (length deck)
+      → Emits s (firstOf s passed (nodeAt deck pool c)) P R (c .at) (nextAt deck pool c) r (length deck)
+  unfolding firstOf
+  first-whole passed c r x {P} {Q} k e d m =
+      let b : bom s (nodeAt deck pool c) ≡ bomIn (x .lead .lines .marks) = ap (bom s) (node-is c x k e) ∙ bom-is s deck pool x in
+      let y : Draws (bom s (nodeAt deck pool c)) P Q = rw b d in
+      before s (bom s (nodeAt deck pool c)) (document s passed (nodeAt deck pool c)) _ r y m
+
+  pub later-whole :
+      (c r : Cursor) (x : Spot) {P Q R : Pen} → c .at ≤ length deck → x ≡ spotAt deck c → Draws (separationIn (x .lead)) P Q
+      → Emits s (document s false (nodeAt deck pool c)) Q R (c .at) (nextAt deck pool c) r (length deck)
+      → Emits s (laterOf s (nodeAt deck pool c)) P R (c .at) (nextAt deck pool c) r (length deck)
+  unfolding laterOf kept nodeIn
+  later-whole c r x {P} {Q} k e d m =
+      let b : separation s (kept (nodeAt deck pool c)) ≡ separationIn (x .lead) = ap (λ (n : Node). separation s (kept n)) (node-is c x k e) ∙ separation-is s deck pool x in
+      let y : Draws (separation s (kept (nodeAt deck pool c))) P Q = rw b d in
+      before s (separation s (kept (nodeAt deck pool c))) (document s false (nodeAt deck pool c)) _ r y m
+
+  -- ---- the documents of a deck
+
+  -- the first of the trees from a cursor on, and the others
+  trees-first : (n : ℕ) (c : Cursor) → 0 < n → c .at < length deck → treesFrom deck pool n c ≡ nodeAt deck pool c ∷ treesFrom deck pool (n - 1) (nextAt deck pool c)
+  unfolding treesFrom
+  trees-first zero c l h = absurd (omega arith)
+  trees-first (suc m) c l h = let z : suc m - 1 ≡ m = omega arith in rw (z, lt-leb (length deck) (c .at) h)
+
+  trees-none : (n : ℕ) (c : Cursor) → length deck ≤ c .at → treesFrom deck pool n c ≡ []
+  unfolding treesFrom
+  trees-none zero c h = refl
+  trees-none (suc m) c h = rw (le-leb (length deck) (c .at) h)
+
+  abbrev pub restOf : ℕ → Cursor → Script
+  restOf n c = laterDocuments s (treesFrom deck pool n c)
+
+  -- finishing from here ends as finishing from the start would
+  pub record Pending (P₀ : Pen) (left₀ : ℕ) (here₀ : Cursor) (P : Pen) (left : ℕ) (here : Cursor) : Type 0 where
+    pub same : ink s (restOf left here) P ≡ ink s (restOf left₀ here₀) P₀
+    pub size : length (P .out) ≡ length (P₀ .out)
+    pub begun : Begun s deck pool P (here .at)
+
+  pub rest-start : (P : Pen) (n : ℕ) (c : Cursor) → Begun s deck pool P (c .at) → Pending P n c P n c
+  rest-start P n c b = record { same = refl; size = refl; begun = b }
+
+  pub rest-turn :
+      (P₀ : Pen) (left₀ : ℕ) (here₀ : Cursor) (P Q : Pen) (left : ℕ) (here next : Cursor) → Pending P₀ left₀ here₀ P left here → 0 < left → here .at < length deck
+      → Emits s (laterOf s (nodeAt deck pool here)) P Q (here .at) (nextAt deck pool here) next (length deck)
+      → Pending P₀ left₀ here₀ Q (left - 1) next
+  unfolding ink laterDocuments laterOf
+  rest-turn P₀ left₀ here₀ P Q left here next g l h m =
+      let t : ink s (restOf left here) P ≡ ink s (restOf (left - 1) (nextAt deck pool here)) Q = rw (trees-first left here l h, m .drawn) in
+      let u : ink s (restOf (left - 1) next) Q ≡ ink s (restOf (left - 1) (nextAt deck pool here)) Q = ap (λ (d : Cursor). ink s (restOf (left - 1) d) Q) (m .next) in
+      record {
+        same = u ∙ sym t ∙ g .same;
+        size = length-of s (laterOf s (nodeAt deck pool here)) P Q (m .drawn) ∙ g .size;
+        begun = begun-emits (g .begun) m;
+      }
+
+  pub rest-end :
+      (P₀ : Pen) (left₀ : ℕ) (here₀ : Cursor) (P : Pen) (left : ℕ) (here : Cursor) → Pending P₀ left₀ here₀ P left here → length deck ≤ here .at
+      → P ≡ ink s (restOf left₀ here₀) P₀
+  unfolding ink laterDocuments nothing puts
+  rest-end P₀ left₀ here₀ P left here g h = let e : ink s (restOf left here) P ≡ P = rw (trees-none left here h) in sym e ∙ g .same
+
+  pub rest-out :
+      (P₀ : Pen) (left₀ : ℕ) (here₀ : Cursor) (P : Pen) (left : ℕ) (here : Cursor) → Pending P₀ left₀ here₀ P left here → left ≡ 0
+      → P ≡ ink s (restOf left₀ here₀) P₀
+  unfolding ink laterDocuments nothing puts treesFrom
+  rest-out P₀ left₀ here₀ P left here g z = let e : ink s (restOf left here) P ≡ P = rw z in sym e ∙ g .same
+
+  pub all-none : (P : Pen) → length deck ≡ 0 → P ≡ ink s (allDocuments s (treesOf deck pool)) P
+  unfolding ink allDocuments nothing puts treesOf treesFrom
+  all-none P z = rw z
+
+  pub all-whole :
+      (c r : Cursor) {P Q R : Pen} → c .at ≡ 0 → 0 < length deck
+      → Emits s (firstOf s false (nodeAt deck pool c)) P Q (c .at) (nextAt deck pool c) r (length deck)
+      → R ≡ ink s (restOf (length deck - 1) r) Q → R ≡ ink s (allDocuments s (treesOf deck pool)) P
+  unfolding ink allDocuments firstOf treesOf
+  all-whole c r {P} {Q} {R} z l m h =
+      let t : treesFrom deck pool (length deck) c ≡ nodeAt deck pool c ∷ treesFrom deck pool (length deck - 1) (nextAt deck pool c) = trees-first (length deck) c l (omega (arith, z, l)) in
+      let u : treesOf deck pool ≡ nodeAt deck pool c ∷ treesFrom deck pool (length deck - 1) (nextAt deck pool c) = ap (treesFrom deck pool (length deck)) (start z) ∙ t in
+      let v : R ≡ ink s (restOf (length deck - 1) (nextAt deck pool c)) Q = h ∙ ap (λ (d : Cursor). ink s (restOf (length deck - 1) d) Q) (m .next) in
+      rw u (v ∙ ap (ink s (restOf (length deck - 1) (nextAt deck pool c))) (m .drawn))
+    where
+      start : c .at ≡ 0 → record { at = 0 } ≡ c
+      start e = rw e

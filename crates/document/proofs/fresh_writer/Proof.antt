@@ -1,0 +1,13 @@
+use Rattle.pen.specs.Shown.{fresh}
+use Rattle.document.proofs.fresh_writer.Statement.{statement}
+use Rattle.document.proofs.fresh_writer.Tie as tie
+use Rattle.document.proofs.fresh_writer.Reads as reads
+use Rattle.document.proofs.fresh_writer.Lts as lts
+
+-- src/lib.rt:347:1
+returns : tie.Need-returns
+unfolding fresh
+returns c = cc
+
+pub fresh-writer-spec : {M : Type 1} → statement M
+fresh-writer-spec = tie.close (tie.spec returns)

@@ -1,0 +1,36 @@
+use native.Mathlib.Omega.{arith}
+use Rattle.document.specs.Begun.{begun-drawn, begun-calm}
+use Rattle.document.proofs.Laws.{block-whole}
+use borrow.Author.Needs.{needs}
+use Rattle.document.proofs.put_block.Statement.{statement}
+use Rattle.document.proofs.put_block.Tie as tie
+use Rattle.document.proofs.put_block.Reads as reads
+use Rattle.document.proofs.put_block.Lts as lts
+use Rattle.choices.proofs.root_column.Reads as root-column-reads
+use Rattle.block.proofs.put_members.Reads as put-members-reads
+use Rattle.parts.proofs.put_props_line.Reads as put-props-line-reads
+
+-- src/lib.rt:136:9
+root-column-requires : tie.Need-root-column-requires
+root-column-requires c κs = search needs
+
+-- src/lib.rt:137:9
+put-props-line-requires : tie.Need-put-props-line-requires
+put-props-line-requires c κs = search needs
+
+-- src/lib.rt:138:5
+put-members-requires : tie.Need-put-members-requires
+put-members-requires c κs = let p = (c .before .before .before .before .before .before .before .before .before .before .pre) in let b = begun-drawn (p .0) (c .before .before .before .put-props-line .ensures) in (begun-calm b _ _ (p .1 .ahead) (p .1 .within) (c .before .before .before .before .before .root-column .ensures .1 (p .0 .ready .step)), p .1, p .2)
+
+-- src/lib.rt:123:1
+same-length : tie.Need-same-length
+same-length c = search needs
+
+-- src/lib.rt:123:1
+returns : tie.Need-returns
+returns c = block-whole _ _ _ _ _ _ (c .before .before .before .before .before .before .before .before .root-column .ensures .0) (c .before .before .before .before .before .before .put-props-line .ensures) (c .before .before .put-members .ensures)
+
+pub put-block-spec : {M : Type 1} → statement M
+put-block-spec =
+    tie.close
+    (tie.spec root-column-requires put-props-line-requires put-members-requires same-length returns)

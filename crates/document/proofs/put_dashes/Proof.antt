@@ -1,0 +1,35 @@
+use Rattle.definition.specs.Document.{dashes}
+use Rattle.definition.specs.Pen.{mark, space, newline}
+use Rattle.parts.specs.Draws.{both, of-puts, of-byte}
+use borrow.Author.Needs.{needs}
+use Rattle.document.proofs.put_dashes.Statement.{statement}
+use Rattle.document.proofs.put_dashes.Tie as tie
+use Rattle.document.proofs.put_dashes.Reads as reads
+use Rattle.document.proofs.put_dashes.Lts as lts
+use Rattle.pen.proofs.Writer.byte.Reads as byte-reads
+use Rattle.pen.proofs.Writer.text.Reads as text-reads
+
+-- src/lib.rt:50:26
+slice-aggregate-text : tie.Need-slice-aggregate-text
+slice-aggregate-text c = search needs
+
+-- src/lib.rt:50:9
+text-requires : tie.Need-text-requires
+text-requires c κs = search needs
+
+-- src/lib.rt:51:5
+byte-requires : tie.Need-byte-requires
+byte-requires c κs = search needs
+
+-- src/lib.rt:46:1
+same-length : tie.Need-same-length
+same-length c = search needs
+
+-- src/lib.rt:46:1
+returns : tie.Need-returns
+unfolding dashes newline
+returns c = both _ _ (of-puts mark _ (c .before .before .before .before .before .before .text .ensures)) (of-byte space _ (c .before .before .byte .ensures))
+
+pub put-dashes-spec : {M : Type 1} → statement M
+put-dashes-spec =
+    tie.close (tie.spec slice-aggregate-text text-requires byte-requires same-length returns)

@@ -1,0 +1,29 @@
+use Rattle.document.specs.Pieces.{stopIn}
+use Rattle.parts.specs.Draws.{draws-yes, draws-no, stays}
+use borrow.Author.Needs.{needs}
+use Rattle.document.proofs.put_stop.Statement.{statement}
+use Rattle.document.proofs.put_stop.Tie as tie
+use Rattle.document.proofs.put_stop.Reads as reads
+use Rattle.document.proofs.put_stop.Lts as lts
+use Rattle.document.proofs.put_dots.Reads as put-dots-reads
+
+-- src/lib.rt:90:9
+put-dots-requires : tie.Need-put-dots-requires
+put-dots-requires c κs = search needs
+
+-- src/lib.rt:90:9
+same-length : tie.Need-same-length
+same-length c = search needs
+
+-- src/lib.rt:90:9
+returns : tie.Need-returns
+unfolding stopIn
+returns c = draws-yes _ _ _ (c .before .before .before .before .if1 .taken) (c .before .before .put-dots .ensures)
+
+-- src/lib.rt:85:1
+returns-2 : tie.Need-returns-2
+unfolding stopIn
+returns-2 c = draws-no _ _ _ (c .if1 .left) stays
+
+pub put-stop-spec : {M : Type 1} → statement M
+put-stop-spec = tie.close (tie.spec put-dots-requires same-length returns returns-2)

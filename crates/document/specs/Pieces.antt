@@ -1,0 +1,80 @@
+-- Pieces of a document, by the marks and counts of its root's leading records; and that each is the definition's.
+use mathlib.Core.Path.{_≡_, refl, sym, _∙_}
+use Prim.Native.Nat.{ℕ, zero, suc}
+use native.Mathlib.Omega.{arith}
+use mathlib.Core.Bool.{Bool, true, false, not, _&&_}
+use mathlib.Core.List.{[], _∷_}
+use lib.Dec.{eqb}
+use borrow.Author.Tests.{ne-eqb}
+use Rattle.definition.specs.Base.{Bytes, if_then_else_, isNil}
+use Rattle.definition.specs.Settings.{stepOf}
+use Rattle.definition.specs.Tree.{Node, kept}
+use Rattle.definition.specs.Deck.{marked, layoutOf}
+use Rattle.definition.specs.Pen.{mark, Script, put, _>>_, nothing}
+use Rattle.definition.specs.Walk.{heads, propsLine, includeLine, inlined, contentOf, members}
+use Rattle.definition.specs.Document.{dashes, dots, directives, rootColumn, body, document, bom, separation}
+use Rattle.definition.specs.declared.Cursor.{Cursor}
+use Rattle.definition.specs.declared.Settings.{Settings}
+use Rattle.node.specs.declared.Lead.{Lead}
+use Rattle.node.specs.Total.{keptOf, runFrom}
+use Rattle.spot.specs.declared.Spot.{Spot}
+use Rattle.spot.specs.Spot.{keptIn, broughtIn, kindIn, nodeIn}
+use Rattle.atoms.specs.Atoms.{on}
+use Rattle.choices.specs.Choices.{includedIn}
+
+-- mark 64: the byte order mark
+unfoldable pub bomIn : ℕ → Script
+bomIn m = if marked m 64 then put mark (0xef ∷ 0xbb ∷ 0xbf ∷ []) else nothing
+
+-- mark 32: `---`
+unfoldable pub startIn : ℕ → Script
+startIn m = if marked m 32 then dashes else nothing
+
+-- `...` where the settings ask for it
+unfoldable pub stopIn : Settings → Script
+stopIn s = if s .«explicit_end» then dots else nothing
+
+-- what stands before a document's root: directives, `---`, head comments
+unfoldable pub opened : Bytes → Bytes → Lead → Script
+opened deck pool l = directives (keptOf deck pool l .directives) >> startIn (l .lines .marks) >> heads (keptOf deck pool l) 0
+
+-- what separates a document from the one before it
+unfoldable pub separationIn : Lead → Script
+separationIn l = if on (l .directives .count) then dots else if marked (l .lines .marks) 32 then nothing else dashes
+
+module _ (s : Settings) where
+  -- a document that may begin with a byte order mark, and one that follows another
+  unfoldable pub firstOf : Bool → Node → Script
+  firstOf passed n = bom s n >> document s passed n
+
+  unfoldable pub laterOf : Node → Script
+  laterOf n = separation s (kept n) >> document s false n
+
+  module _ (deck pool : Bytes) where
+    -- a root that is a block collection, a root on one line, and any root
+    unfoldable pub blockRoot : Spot → Script
+    blockRoot x = propsLine (broughtIn deck pool x) >> members s (rootColumn s (keptIn deck pool x) (broughtIn deck pool x) (kindIn deck pool x)) true (kindIn deck pool x)
+
+    unfoldable pub lineRoot : Spot → Script
+    lineRoot x =
+        inlined (x .place) (keptIn deck pool x) (broughtIn deck pool x)
+        (contentOf s false false (stepOf s) (x .place) (keptIn deck pool x) (broughtIn deck pool x) (kindIn deck pool x))
+
+    unfoldable pub rootOf : Bool → Spot → Script
+    rootOf passed x = if includedIn (x .lead .origin) && not passed then includeLine (x .place) (keptIn deck pool x) else body s (nodeIn deck pool x)
+
+-- ---- they are the definition's
+
+some-run : {A : Type 0} (e : Cursor → A) (s n : ℕ) (c : Cursor) → not (isNil (runFrom e s n c)) ≡ on n
+unfolding isNil runFrom on
+some-run e s zero c = refl
+some-run e s (suc n) c = rw (ne-eqb (suc n) 0 (λ e. absurd (omega arith)))
+
+module _ (s : Settings) (deck pool : Bytes) (x : Spot) where
+  pub bom-is : bom s (nodeIn deck pool x) ≡ bomIn (x .lead .lines .marks)
+  unfolding bom nodeIn kept keptOf layoutOf bomIn
+  bom-is = refl
+
+  pub separation-is : separation s (keptOf deck pool (x .lead)) ≡ separationIn (x .lead)
+  unfolding separation keptOf layoutOf separationIn
+  separation-is = rw some-run

@@ -1,0 +1,377 @@
+// Documents: a root's body, a document with its directives and comments, one document, and all documents of a deck.
+use definition::Cursor;
+use definition::Settings;
+use flow::Emitted;
+use node::Lead;
+use node::Origin;
+use parts::Entries;
+use pen::Writer;
+use spot::Spot;
+ghost use mathlib.Core.Path.{_≡_};
+ghost use Prim.Native.Nat.{_<_, _^_};
+ghost use mathlib.Core.Bool.{not, _&&_};
+ghost use lib.ListN.{length};
+ghost use Rattle.definition.specs.Document.{dashes, dots, body, document, oneDocument, allDocuments, laterDocuments};
+ghost use Rattle.node.specs.Total.{treesFrom, treesOf};
+ghost use Rattle.pen.specs.Pen.{pen, ink, ended};
+ghost use Rattle.pen.specs.Shown.{fresh};
+ghost use Rattle.parts.specs.Draws.{Draws};
+ghost use Rattle.parts.specs.Runs.{Short};
+ghost use Rattle.spot.specs.Spot.{kindIn, endIn, nodeIn, spotAt};
+ghost use Rattle.spot.specs.Good.{Good, countIn};
+ghost use Rattle.choices.specs.Choices.{includedIn};
+ghost use Rattle.joints.specs.Entries.{nodeAt, nextAt};
+ghost use Rattle.flow.specs.Ready.{Ready, Emits};
+ghost use Rattle.document.specs.Begun.{Begun};
+ghost use Rattle.document.specs.Pieces.{bomIn, startIn, stopIn, opened, separationIn, firstOf, laterOf, blockRoot, lineRoot, rootOf};
+
+fn put_dashes(w: Writer, out: &mut [u8]) -> Writer
+    requires { ⌜ length (now out) < 2 ^ 62 ⌝ }
+    ensures { λ r. ⌜ Draws dashes (pen w (now (out .entry))) (pen r (now (out .exit))) ⌝ }
+{
+    let w1 = w.text(out, b"---");
+    w1.byte(out, b'\n')
+}
+
+fn put_dots(w: Writer, out: &mut [u8]) -> Writer
+    requires { ⌜ length (now out) < 2 ^ 62 ⌝ }
+    ensures { λ r. ⌜ Draws dots (pen w (now (out .entry))) (pen r (now (out .exit))) ⌝ }
+{
+    let w1 = w.text(out, b"...");
+    w1.byte(out, b'\n')
+}
+
+// The byte order mark, where mark 64 is set.
+fn put_bom(w: Writer, out: &mut [u8], marks: usize) -> Writer
+    requires { ⌜ length (now out) < 2 ^ 62 ⌝ }
+    ensures { λ r. ⌜ Draws (bomIn marks) (pen w (now (out .entry))) (pen r (now (out .exit))) ⌝ }
+{
+    if parts::is_marked(marks, 64) {
+        return w.text(out, b"\xef\xbb\xbf");
+    }
+    w
+}
+
+// `---`, where mark 32 is set.
+fn put_start(w: Writer, out: &mut [u8], marks: usize) -> Writer
+    requires { ⌜ length (now out) < 2 ^ 62 ⌝ }
+    ensures { λ r. ⌜ Draws (startIn marks) (pen w (now (out .entry))) (pen r (now (out .exit))) ⌝ }
+{
+    if parts::is_marked(marks, 32) {
+        return put_dashes(w, out);
+    }
+    w
+}
+
+// `...`, where the settings ask for it.
+fn put_stop(w: Writer, out: &mut [u8], settings: Settings) -> Writer
+    requires { ⌜ length (now out) < 2 ^ 62 ⌝ }
+    ensures { λ r. ⌜ Draws (stopIn settings) (pen w (now (out .entry))) (pen r (now (out .exit))) ⌝ }
+{
+    if settings.explicit_end {
+        return put_dots(w, out);
+    }
+    w
+}
+
+// What separates a document from the one before it.
+fn put_separation(w: Writer, out: &mut [u8], lead: Lead) -> Writer
+    requires { ⌜ length (now out) < 2 ^ 62 ⌝ }
+    ensures { λ r. ⌜ Draws (separationIn lead) (pen w (now (out .entry))) (pen r (now (out .exit))) ⌝ }
+{
+    let directives = lead.directives;
+    if directives.count != 0 {
+        return put_dots(w, out);
+    }
+    let lines = lead.lines;
+    if parts::is_marked(lines.marks, 32) {
+        return w;
+    }
+    put_dashes(w, out)
+}
+
+// What stands before a document's root.
+fn put_opening(w: Writer, deck: &[u8], pool: &[u8], out: &mut [u8], lead: Lead) -> Writer
+    requires { ⌜ (length (now out) < 2 ^ 62) × Short lead ⌝ }
+    ensures { λ r. ⌜ Draws (opened (now (deck .entry)) (now (pool .entry)) lead) (pen w (now (out .entry))) (pen r (now (out .exit))) ⌝ }
+{
+    let lines = lead.lines;
+    let w1 = parts::put_repeated(w, deck, pool, out, lead, Entries::Directives, 0);
+    let w2 = put_start(w1, out, lines.marks);
+    parts::put_repeated(w2, deck, pool, out, lead, Entries::Heads, 0)
+}
+
+// A root that is a block collection.
+fn put_block(
+    w: Writer,
+    deck: &[u8],
+    pool: &[u8],
+    out: &mut [u8],
+    settings: Settings,
+    x: Spot,
+) -> Emitted
+    requires { ⌜ Begun settings (now deck) (now pool) (pen w (now out)) (x .place) × Good (now deck) x × (countIn (x .body) < 65536) ⌝ }
+    ensures { λ r. ⌜ Emits settings (blockRoot settings (now (deck .entry)) (now (pool .entry)) x) (pen w (now (out .entry))) (pen (r .w) (now (out .exit))) (x .place) (endIn (now (deck .entry)) (now (pool .entry)) x) (r .next) (length (now (deck .entry))) ⌝ }
+{
+    let lead = x.lead;
+    let body = x.body;
+    let i = choices::root_column(settings, lead.lines, lead.tag, body);
+    let w1 = parts::put_props_line(w, pool, out, lead);
+    block::put_members(w1, deck, pool, out, settings, x, i, true)
+}
+
+// A root on one line.
+fn put_inlined(
+    w: Writer,
+    deck: &[u8],
+    pool: &[u8],
+    out: &mut [u8],
+    settings: Settings,
+    x: Spot,
+) -> Emitted
+    requires { ⌜ Begun settings (now deck) (now pool) (pen w (now out)) (x .place) × Good (now deck) x × (countIn (x .body) < 65536) ⌝ }
+    ensures { λ r. ⌜ Emits settings (lineRoot settings (now (deck .entry)) (now (pool .entry)) x) (pen w (now (out .entry))) (pen (r .w) (now (out .exit))) (x .place) (endIn (now (deck .entry)) (now (pool .entry)) x) (r .next) (length (now (deck .entry))) ⌝ }
+{
+    let lead = x.lead;
+    let w1 = parts::put_props(w, pool, out, lead);
+    let i = choices::step_of(settings);
+    let e = flow::content(w1, deck, pool, out, settings, x, i);
+    let v = e.w;
+    let next = e.next;
+    let v1 = parts::put_close(v, pool, out, x.place, lead);
+    Emitted { w: v1, next }
+}
+
+// What stands between a document's head and foot comments.
+fn put_body(
+    w: Writer,
+    deck: &[u8],
+    pool: &[u8],
+    out: &mut [u8],
+    settings: Settings,
+    x: Spot,
+) -> Emitted
+    requires { ⌜ Begun settings (now deck) (now pool) (pen w (now out)) (x .place) × Good (now deck) x × (countIn (x .body) < 65536) ⌝ }
+    ensures { λ r. ⌜ Emits settings (body settings (nodeIn (now (deck .entry)) (now (pool .entry)) x)) (pen w (now (out .entry))) (pen (r .w) (now (out .exit))) (x .place) (endIn (now (deck .entry)) (now (pool .entry)) x) (r .next) (length (now (deck .entry))) ⌝ }
+{
+    let lead = x.lead;
+    let body = x.body;
+    if choices::is_block(body) {
+        return put_block(w, deck, pool, out, settings, x);
+    }
+    if choices::bare_root(
+        settings,
+        lead.lines,
+        lead.remark,
+        lead.tag,
+        lead.anchor,
+        body,
+    ) {
+        let v = parts::put_props_line(w, pool, out, lead);
+        let next = x.next;
+        return Emitted { w: v, next };
+    }
+    put_inlined(w, deck, pool, out, settings, x)
+}
+
+// The root's include is written in its place.
+fn is_directed(origin: Origin, passed: bool) -> bool
+    ensures { λ r. ⌜ r ≡ (includedIn origin && not passed) ⌝ }
+{
+    if choices::is_included(origin) {
+        return !passed;
+    }
+    false
+}
+
+// The root at a cursor: its include's line, or its body.
+fn put_root(
+    w: Writer,
+    deck: &[u8],
+    pool: &[u8],
+    out: &mut [u8],
+    settings: Settings,
+    c: Cursor,
+    x: Spot,
+    passed: bool,
+) -> Emitted
+    requires { ⌜ Begun settings (now deck) (now pool) (pen w (now out)) (c .at) × (x ≡ spotAt (now deck) c) ⌝ }
+    ensures { λ r. ⌜ Emits settings (rootOf settings (now (deck .entry)) (now (pool .entry)) passed x) (pen w (now (out .entry))) (pen (r .w) (now (out .exit))) (c .at) (nextAt (now (deck .entry)) (now (pool .entry)) c) (r .next) (length (now (deck .entry))) ⌝ }
+{
+    let lead = x.lead;
+    if is_directed(lead.origin, passed) {
+        let v = parts::put_include_line(w, pool, out, x.place, lead);
+        let next = node::subtree_end(deck, c);
+        return Emitted { w: v, next };
+    }
+    put_body(w, deck, pool, out, settings, x)
+}
+
+// `emit_document`, of the tree at a cursor.
+fn put_document(
+    w: Writer,
+    deck: &[u8],
+    pool: &[u8],
+    out: &mut [u8],
+    settings: Settings,
+    c: Cursor,
+    x: Spot,
+    passed: bool,
+) -> Emitted
+    requires { ⌜ Begun settings (now deck) (now pool) (pen w (now out)) (c .at) × (x ≡ spotAt (now deck) c) ⌝ }
+    ensures { λ r. ⌜ Emits settings (document settings passed (nodeAt (now (deck .entry)) (now (pool .entry)) c)) (pen w (now (out .entry))) (pen (r .w) (now (out .exit))) (c .at) (nextAt (now (deck .entry)) (now (pool .entry)) c) (r .next) (length (now (deck .entry))) ⌝ }
+{
+    let lead = x.lead;
+    let w1 = put_opening(w, deck, pool, out, lead);
+    let e = put_root(w1, deck, pool, out, settings, c, x, passed);
+    let v = e.w;
+    let next = e.next;
+    let v1 = parts::put_repeated(v, deck, pool, out, lead, Entries::Foots, 0);
+    Emitted { w: v1, next }
+}
+
+// A document that may begin with a byte order mark.
+fn put_first(
+    w: Writer,
+    deck: &[u8],
+    pool: &[u8],
+    out: &mut [u8],
+    settings: Settings,
+    c: Cursor,
+    passed: bool,
+) -> Emitted
+    requires { ⌜ Begun settings (now deck) (now pool) (pen w (now out)) (c .at) ⌝ }
+    ensures { λ r. ⌜ Emits settings (firstOf settings passed (nodeAt (now (deck .entry)) (now (pool .entry)) c)) (pen w (now (out .entry))) (pen (r .w) (now (out .exit))) (c .at) (nextAt (now (deck .entry)) (now (pool .entry)) c) (r .next) (length (now (deck .entry))) ⌝ }
+{
+    let x = spot::spot_at(deck, c);
+    let lead = x.lead;
+    let lines = lead.lines;
+    let w1 = put_bom(w, out, lines.marks);
+    put_document(w1, deck, pool, out, settings, c, x, passed)
+}
+
+// `emit_roundtrip_with` and `emit_roundtrip_dump`, of the tree at a cursor; `passed`: its include is passed over.
+fn put_one(
+    w: Writer,
+    deck: &[u8],
+    pool: &[u8],
+    out: &mut [u8],
+    settings: Settings,
+    c: Cursor,
+    passed: bool,
+) -> Emitted
+    requires { ⌜ Begun settings (now deck) (now pool) (pen w (now out)) (c .at) ⌝ }
+    ensures { λ r. ⌜ Emits settings (oneDocument settings passed (nodeAt (now (deck .entry)) (now (pool .entry)) c)) (pen w (now (out .entry))) (pen (r .w) (now (out .exit))) (c .at) (nextAt (now (deck .entry)) (now (pool .entry)) c) (r .next) (length (now (deck .entry))) ⌝ }
+{
+    let e = put_first(w, deck, pool, out, settings, c, passed);
+    let v = e.w;
+    let next = e.next;
+    let v1 = put_stop(v, out, settings);
+    Emitted { w: v1, next }
+}
+
+// A document that follows another.
+fn put_later(
+    w: Writer,
+    deck: &[u8],
+    pool: &[u8],
+    out: &mut [u8],
+    settings: Settings,
+    c: Cursor,
+) -> Emitted
+    requires { ⌜ Begun settings (now deck) (now pool) (pen w (now out)) (c .at) ⌝ }
+    ensures { λ r. ⌜ Emits settings (laterOf settings (nodeAt (now (deck .entry)) (now (pool .entry)) c)) (pen w (now (out .entry))) (pen (r .w) (now (out .exit))) (c .at) (nextAt (now (deck .entry)) (now (pool .entry)) c) (r .next) (length (now (deck .entry))) ⌝ }
+{
+    let x = spot::spot_at(deck, c);
+    let lead = x.lead;
+    let w1 = put_separation(w, out, lead);
+    put_document(w1, deck, pool, out, settings, c, x, false)
+}
+
+// The documents from a cursor to the deck's end, n of them at most.
+fn put_rest(
+    w: Writer,
+    deck: &[u8],
+    pool: &[u8],
+    out: &mut [u8],
+    settings: Settings,
+    c: Cursor,
+    n: usize,
+) -> Writer
+    requires { ⌜ Begun settings (now deck) (now pool) (pen w (now out)) (c .at) ⌝ }
+    ensures { λ r. ⌜ pen r (now (out .exit)) ≡ ink settings (laterDocuments settings (treesFrom (now (deck .entry)) (now (pool .entry)) n c)) (pen w (now (out .entry))) ⌝ }
+{
+    let mut v = w;
+    let mut here = c;
+    let mut left = n;
+    while left > 0 {
+        if deck.len() <= here.at {
+            return v;
+        }
+        let e = put_later(v, deck, pool, out, settings, here);
+        v = e.w;
+        here = e.next;
+        left -= 1;
+    }
+    v
+}
+
+// `emit_roundtrip_all_with`
+fn put_all(w: Writer, deck: &[u8], pool: &[u8], out: &mut [u8], settings: Settings) -> Writer
+    requires { ⌜ Begun settings (now deck) (now pool) (pen w (now out)) 0 ⌝ }
+    ensures { λ r. ⌜ pen r (now (out .exit)) ≡ ink settings (allDocuments settings (treesOf (now (deck .entry)) (now (pool .entry)))) (pen w (now (out .entry))) ⌝ }
+{
+    let n = deck.len();
+    if n == 0 {
+        return w;
+    }
+    let c = Cursor { at: 0 };
+    let e = put_first(w, deck, pool, out, settings, c, false);
+    let v = e.w;
+    let next = e.next;
+    put_rest(v, deck, pool, out, settings, next, n - 1)
+}
+
+// A writer that has written nothing. Columns are kept where lines are folded.
+pub fn fresh_writer(settings: Settings) -> Writer
+    ensures { λ r. ⌜ r ≡ fresh (settings .width) 0 0 ⌝ }
+{
+    Writer {
+        len: 0,
+        last: 0,
+        under: 0,
+        column: 0,
+        tracks: settings.width,
+        flow: 0,
+        key: 0,
+        inline: 0,
+        raw: 0,
+    }
+}
+
+// One document, to the end of its file.
+pub fn write_one(
+    w: Writer,
+    deck: &[u8],
+    pool: &[u8],
+    out: &mut [u8],
+    settings: Settings,
+    c: Cursor,
+    passed: bool,
+) -> Writer
+    requires { ⌜ Begun settings (now deck) (now pool) (pen w (now out)) (c .at) ⌝ }
+    ensures { λ r. ⌜ pen r (now (out .exit)) ≡ ended (ink settings (oneDocument settings passed (nodeAt (now (deck .entry)) (now (pool .entry)) c)) (pen w (now (out .entry)))) ⌝ }
+{
+    let e = put_one(w, deck, pool, out, settings, c, passed);
+    let v = e.w;
+    v.finish(out)
+}
+
+// All documents, to the end of their file.
+pub fn write_all(w: Writer, deck: &[u8], pool: &[u8], out: &mut [u8], settings: Settings) -> Writer
+    requires { ⌜ Begun settings (now deck) (now pool) (pen w (now out)) 0 ⌝ }
+    ensures { λ r. ⌜ pen r (now (out .exit)) ≡ ended (ink settings (allDocuments settings (treesOf (now (deck .entry)) (now (pool .entry)))) (pen w (now (out .entry)))) ⌝ }
+{
+    let v = put_all(w, deck, pool, out, settings);
+    v.finish(out)
+}

@@ -1,0 +1,35 @@
+use native.Mathlib.Omega.{arith}
+use Rattle.rassemok.proofs.Laws.{begin-at, one-answered}
+use borrow.Author.Needs.{needs}
+use Rattle.rassemok.proofs.emit_one.Statement.{statement}
+use Rattle.rassemok.proofs.emit_one.Tie as tie
+use Rattle.rassemok.proofs.emit_one.Reads as reads
+use Rattle.rassemok.proofs.emit_one.Lts as lts
+use Rattle.document.proofs.fresh_writer.Reads as fresh-writer-reads
+use Rattle.rassemok.proofs.settle.Reads as settle-reads
+use Rattle.document.proofs.write_one.Reads as write-one-reads
+
+-- src/lib.rt:161:9
+fresh-writer-requires : tie.Need-fresh-writer-requires
+fresh-writer-requires c κs = search needs
+
+-- src/lib.rt:163:9
+write-one-requires : tie.Need-write-one-requires
+write-one-requires c κs = begin-at _ _ _ _ ((c .before .before .before .before .before .pre) .0) ((c .before .before .before .before .before .pre) .1) _ (c .before .fresh-writer .ensures) (λ k. omega (arith, c .before .before .slice-known .given k))
+
+-- src/lib.rt:164:5
+settle-requires : tie.Need-settle-requires
+settle-requires c κs = search needs
+
+-- src/lib.rt:157:1
+same-length : tie.Need-same-length
+same-length c = search needs
+
+-- src/lib.rt:157:1
+returns : tie.Need-returns
+returns c = one-answered _ _ _ _ ((c .before .before .before .before .before .before .before .before .before .before .before .before .pre) .0) ((c .before .before .before .before .before .before .before .before .before .before .before .before .pre) .1) _ _ _ _ _ ((c .before .before .before .before .before .before .before .before .before .before .before .before .pre) .2) (c .before .before .before .before .before .before .before .before .fresh-writer .ensures) (c .before .before .before .before .before .before .write-one .ensures) (c .before .before .settle .ensures)
+
+pub emit-one-spec : {M : Type 1} → statement M
+emit-one-spec =
+    tie.close
+    (tie.spec fresh-writer-requires write-one-requires settle-requires same-length returns)

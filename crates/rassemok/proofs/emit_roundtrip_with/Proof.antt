@@ -1,0 +1,29 @@
+use Rattle.definition.specs.Calls.{outcome}
+use Rattle.rassemok.specs.Answer.{written}
+use borrow.Author.Needs.{needs}
+use Rattle.rassemok.proofs.emit_roundtrip_with.Statement.{statement}
+use Rattle.rassemok.proofs.emit_roundtrip_with.Tie as tie
+use Rattle.rassemok.proofs.emit_roundtrip_with.Reads as reads
+use Rattle.rassemok.proofs.emit_roundtrip_with.Lts as lts
+use Rattle.rassemok.proofs.null_as.Reads as null-as-reads
+use Rattle.rassemok.proofs.write.Reads as write-reads
+
+-- src/lib.rt:248:9
+null-as-requires : tie.Need-null-as-requires
+null-as-requires c κs = search needs
+
+-- src/lib.rt:249:5
+write-requires : tie.Need-write-requires
+write-requires c κs = search needs
+
+-- src/lib.rt:240:1
+same-length : tie.Need-same-length
+same-length c = search needs
+
+-- src/lib.rt:240:1
+returns : tie.Need-returns
+unfolding outcome written
+returns c = rw (c .before .before .before .before .null-as .ensures) at (c .before .before .write .ensures)
+
+pub emit-roundtrip-with-spec : {M : Type 1} → statement M
+emit-roundtrip-with-spec = tie.close (tie.spec null-as-requires write-requires same-length returns)

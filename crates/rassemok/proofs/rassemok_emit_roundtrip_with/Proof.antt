@@ -1,0 +1,27 @@
+use borrow.Author.Needs.{needs}
+use Rattle.rassemok.proofs.rassemok_emit_roundtrip_with.Statement.{statement}
+use Rattle.rassemok.proofs.rassemok_emit_roundtrip_with.Tie as tie
+use Rattle.rassemok.proofs.rassemok_emit_roundtrip_with.Reads as reads
+use Rattle.rassemok.proofs.rassemok_emit_roundtrip_with.Lts as lts
+use Rattle.rassemok.proofs.emit_roundtrip_with.Reads as emit-roundtrip-with-reads
+use Rattle.rassemok.proofs.null_style_of.Reads as null-style-of-reads
+
+-- src/lib.rt:325:9
+null-style-of-requires : tie.Need-null-style-of-requires
+null-style-of-requires c κs = search needs
+
+-- src/lib.rt:326:5
+emit-roundtrip-with-requires : tie.Need-emit-roundtrip-with-requires
+emit-roundtrip-with-requires c κs = search needs
+
+-- src/lib.rt:316:1
+same-length : tie.Need-same-length
+same-length c = search needs
+
+-- src/lib.rt:316:1
+returns : tie.Need-returns
+returns c = rw (c .before .before .before .before .null-style-of .ensures) at (c .before .before .emit-roundtrip-with .ensures)
+
+pub rassemok-emit-roundtrip-with-spec : {M : Type 1} → statement M
+rassemok-emit-roundtrip-with-spec =
+    tie.close (tie.spec null-style-of-requires emit-roundtrip-with-requires same-length returns)

@@ -1,0 +1,44 @@
+use Rattle.rassemok.specs.Options.{settingsOf}
+use borrow.Author.Needs.{needs}
+use Rattle.rassemok.proofs.settings_of.Statement.{statement}
+use Rattle.rassemok.proofs.settings_of.Tie as tie
+use Rattle.rassemok.proofs.settings_of.Reads as reads
+use Rattle.rassemok.proofs.settings_of.Lts as lts
+use Rattle.rassemok.proofs.is_on.Reads as is-on-reads
+use Rattle.rassemok.proofs.null_style_of.Reads as null-style-of-reads
+
+-- src/lib.rt:296:9
+null-style-of-requires : tie.Need-null-style-of-requires
+null-style-of-requires c κs = search needs
+
+-- src/lib.rt:299:27
+is-on-requires : tie.Need-is-on-requires
+is-on-requires c κs = search needs
+
+-- src/lib.rt:300:23
+is-on-requires-2 : tie.Need-is-on-requires-2
+is-on-requires-2 c κs = search needs
+
+-- src/lib.rt:302:21
+is-on-requires-3 : tie.Need-is-on-requires-3
+is-on-requires-3 c κs = search needs
+
+-- src/lib.rt:303:24
+is-on-requires-4 : tie.Need-is-on-requires-4
+is-on-requires-4 c κs = search needs
+
+-- src/lib.rt:293:1
+returns : tie.Need-returns
+unfolding settingsOf
+returns c = cc
+
+pub settings-of-spec : {M : Type 1} → statement M
+settings-of-spec =
+    tie.close
+    (tie.spec
+    null-style-of-requires
+    is-on-requires
+    is-on-requires-2
+    is-on-requires-3
+    is-on-requires-4
+    returns)

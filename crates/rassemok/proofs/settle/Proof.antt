@@ -1,0 +1,33 @@
+use native.Mathlib.Omega.{arith}
+use mathlib.Core.Path.{refl}
+use Rattle.rassemok.proofs.Laws.{tells-over, tells-fits}
+use borrow.Author.Needs.{needs}
+use Rattle.rassemok.proofs.settle.Statement.{statement}
+use Rattle.rassemok.proofs.settle.Tie as tie
+use Rattle.rassemok.proofs.settle.Reads as reads
+use Rattle.rassemok.proofs.settle.Lts as lts
+use Rattle.rassemok.proofs.clear.Reads as clear-reads
+use Rattle.rassemok.proofs.refuse.Reads as refuse-reads
+
+-- src/lib.rt:145:9
+clear-requires : tie.Need-clear-requires
+clear-requires c κs = search needs
+
+-- src/lib.rt:146:9
+refuse-requires : tie.Need-refuse-requires
+refuse-requires c κs = search needs
+
+-- src/lib.rt:146:9
+same-length : tie.Need-same-length
+same-length c = search needs
+
+-- src/lib.rt:146:9
+returns : tie.Need-returns
+returns c = tells-over _ _ _ (c .before .before .before .before .before .if1 .taken) (c .refuse .ensures) (c .before .before .before .clear .ensures)
+
+-- src/lib.rt:140:1
+returns-2 : tie.Need-returns-2
+returns-2 c = tells-fits _ _ (c .if1 .left) refl
+
+pub settle-spec : {M : Type 1} → statement M
+settle-spec = tie.close (tie.spec clear-requires refuse-requires same-length returns returns-2)

@@ -1,0 +1,294 @@
+// The public calls that write: one document, all documents, under a null style or under settings. Nothing is asked of the caller.
+use definition::Cursor;
+use definition::NullStyle;
+use definition::Settings;
+use judge::Verdict;
+use pen::Writer;
+ghost use mathlib.Core.Path.{_≡_};
+ghost use lib.ListN.{length, replicate};
+ghost use mathlib.Core.Bool.{true, false};
+ghost use Rattle.definition.specs.Settings.{nullAs};
+ghost use Rattle.definition.specs.Calls.{outcome, emitRoundtrip, emitRoundtripWith, emitRoundtripAllWith, emitRoundtripDump};
+ghost use Rattle.pen.specs.Pen.{pen};
+ghost use Rattle.agree.specs.Accepted.{Accepted};
+ghost use Rattle.told.specs.Outcome.{Settled, Small, lent};
+ghost use Rattle.rassemok.specs.Answer.{outcomeOf, refusal, written, Tells};
+ghost use Rattle.rassemok.specs.Options.{nullStyleOf, isOn, settingsOf};
+ghost use Rattle.rassemok.specs.Limits.{limitOf};
+
+// Number and place of the refusal, 0 and 0 of an answer; the length of what was written. `count` and `modified` are of other calls.
+#[repr(C)]
+pub struct Answer {
+    pub number: usize,
+    pub place: usize,
+    pub length: usize,
+    pub count: usize,
+    pub modified: bool,
+}
+
+// Settings, as numbers.
+#[repr(C)]
+pub struct Options {
+    pub null_style: usize,
+    pub indent_sequences: usize,
+    pub explicit_end: usize,
+    pub indent: usize,
+    pub indentless: usize,
+    pub single_quotes: usize,
+    pub width: usize,
+}
+
+fn refuse(number: usize, place: usize) -> Answer
+    ensures { λ r. ⌜ r ≡ refusal number place ⌝ }
+{
+    Answer {
+        number,
+        place,
+        length: 0,
+        count: 0,
+        modified: false,
+    }
+}
+
+// Refusal 1 or 2, or 0.
+fn over_limits(deck: &[u8], pool: &[u8], room: usize, settings: Settings) -> usize
+    ensures { λ r. ⌜ r ≡ limitOf settings (length (now (deck .entry))) (length (now (pool .entry))) room ⌝ }
+{
+    if settings.indent > 16 {
+        return 1;
+    }
+    if settings.width > 65535 {
+        return 1;
+    }
+    if deck.len() > 65536 {
+        return 2;
+    }
+    if pool.len() > 65536 {
+        return 2;
+    }
+    if room > 1048576 {
+        return 2;
+    }
+    0
+}
+
+fn clear(out: &mut [u8])
+    ensures { λ _. ⌜ now (out .exit) ≡ replicate (length (now (out .entry))) 0 ⌝ }
+{
+    let mut i = 0;
+    while i < out.len() {
+        out[i] = 0;
+        i += 1;
+    }
+}
+
+// The answer at the end of a run. Where the output was too short it is refusal 10, and the output is all zero.
+fn settle(w: Writer, out: &mut [u8]) -> Answer
+    ensures { λ r. ⌜ Tells (pen w (now (out .entry))) r (now (out .exit)) ⌝ }
+{
+    let length = w.len;
+    if out.len() < length {
+        clear(out);
+        return refuse(10, 0);
+    }
+    Answer {
+        number: 0,
+        place: 0,
+        length,
+        count: 0,
+        modified: false,
+    }
+}
+
+fn emit_one(deck: &[u8], pool: &[u8], out: &mut [u8], settings: Settings) -> Answer
+    requires { ⌜ Settled settings × Small (lent (now deck) (now pool) (now out)) × Accepted (now deck) (now pool) 1 ⌝ }
+    ensures { λ r. ⌜ outcomeOf r (now (out .exit)) ≡ written settings false (lent (now (deck .entry)) (now (pool .entry)) (now (out .entry))) ⌝ }
+{
+    let w = document::fresh_writer(settings);
+    let c = Cursor { at: 0 };
+    let v = document::write_one(w, deck, pool, out, settings, c, false);
+    settle(v, out)
+}
+
+fn emit_all(
+    deck: &[u8],
+    pool: &[u8],
+    out: &mut [u8],
+    settings: Settings,
+    documents: usize,
+) -> Answer
+    requires { ⌜ Settled settings × Small (lent (now deck) (now pool) (now out)) × Accepted (now deck) (now pool) documents ⌝ }
+    ensures { λ r. ⌜ outcomeOf r (now (out .exit)) ≡ written settings true (lent (now (deck .entry)) (now (pool .entry)) (now (out .entry))) ⌝ }
+{
+    let w = document::fresh_writer(settings);
+    let v = document::write_all(w, deck, pool, out, settings);
+    settle(v, out)
+}
+
+// A deck of so many documents, which is accepted.
+fn emit(
+    deck: &[u8],
+    pool: &[u8],
+    out: &mut [u8],
+    settings: Settings,
+    all: bool,
+    documents: usize,
+) -> Answer
+    requires { ⌜ Settled settings × Small (lent (now deck) (now pool) (now out)) × Accepted (now deck) (now pool) documents ⌝ }
+    ensures { λ r. ⌜ outcomeOf r (now (out .exit)) ≡ written settings all (lent (now (deck .entry)) (now (pool .entry)) (now (out .entry))) ⌝ }
+{
+    if all {
+        return emit_all(deck, pool, out, settings, documents);
+    }
+    if documents != 1 {
+        return refuse(8, 0);
+    }
+    emit_one(deck, pool, out, settings)
+}
+
+// The limits, the judge, the emission.
+fn write(deck: &[u8], pool: &[u8], out: &mut [u8], settings: Settings, all: bool) -> Answer
+    ensures { λ r. ⌜ outcomeOf r (now (out .exit)) ≡ written settings all (lent (now (deck .entry)) (now (pool .entry)) (now (out .entry))) ⌝ }
+{
+    let n = over_limits(deck, pool, out.len(), settings);
+    if n != 0 {
+        return refuse(n, 0);
+    }
+    let verdict = judge::judge(deck, pool);
+    match verdict {
+        Verdict::Good { documents } => emit(deck, pool, out, settings, all, documents),
+        Verdict::Refused { number, place } => refuse(number, place),
+    }
+}
+
+// All false and zero, and a null style.
+fn null_as(null_style: NullStyle) -> Settings
+    ensures { λ r. ⌜ r ≡ nullAs «null_style» ⌝ }
+{
+    Settings {
+        null_style,
+        indent_sequences: false,
+        explicit_end: false,
+        indent: 0,
+        indentless: false,
+        single_quotes: false,
+        width: 0,
+    }
+}
+
+pub fn emit_roundtrip(deck: &[u8], pool: &[u8], out: &mut [u8]) -> Answer
+    ensures { λ r. ⌜ outcomeOf r (now (out .exit)) ≡ outcome emitRoundtrip (lent (now (deck .entry)) (now (pool .entry)) (now (out .entry))) ⌝ }
+{
+    let settings = null_as(NullStyle::Null);
+    write(deck, pool, out, settings, false)
+}
+
+pub fn emit_roundtrip_with(
+    deck: &[u8],
+    pool: &[u8],
+    out: &mut [u8],
+    null_style: NullStyle,
+) -> Answer
+    ensures { λ r. ⌜ outcomeOf r (now (out .exit)) ≡ outcome (emitRoundtripWith «null_style») (lent (now (deck .entry)) (now (pool .entry)) (now (out .entry))) ⌝ }
+{
+    let settings = null_as(null_style);
+    write(deck, pool, out, settings, false)
+}
+
+pub fn emit_roundtrip_all_with(
+    deck: &[u8],
+    pool: &[u8],
+    out: &mut [u8],
+    null_style: NullStyle,
+) -> Answer
+    ensures { λ r. ⌜ outcomeOf r (now (out .exit)) ≡ outcome (emitRoundtripAllWith «null_style») (lent (now (deck .entry)) (now (pool .entry)) (now (out .entry))) ⌝ }
+{
+    let settings = null_as(null_style);
+    write(deck, pool, out, settings, true)
+}
+
+pub fn emit_roundtrip_dump(deck: &[u8], pool: &[u8], out: &mut [u8], settings: Settings) -> Answer
+    ensures { λ r. ⌜ outcomeOf r (now (out .exit)) ≡ outcome (emitRoundtripDump settings) (lent (now (deck .entry)) (now (pool .entry)) (now (out .entry))) ⌝ }
+{
+    write(deck, pool, out, settings, false)
+}
+
+fn null_style_of(n: usize) -> NullStyle
+    ensures { λ r. ⌜ r ≡ nullStyleOf n ⌝ }
+{
+    if n == 1 {
+        return NullStyle::Empty;
+    }
+    if n == 2 {
+        return NullStyle::Tilde;
+    }
+    NullStyle::Null
+}
+
+fn is_on(n: usize) -> bool
+    ensures { λ r. ⌜ r ≡ isOn n ⌝ }
+{
+    n != 0
+}
+
+fn settings_of(options: Options) -> Settings
+    ensures { λ r. ⌜ r ≡ settingsOf options ⌝ }
+{
+    let null_style = null_style_of(options.null_style);
+    Settings {
+        null_style,
+        indent_sequences: is_on(options.indent_sequences),
+        explicit_end: is_on(options.explicit_end),
+        indent: options.indent,
+        indentless: is_on(options.indentless),
+        single_quotes: is_on(options.single_quotes),
+        width: options.width,
+    }
+}
+
+// The calls as C and Rust call them.
+#[no_mangle]
+pub extern "C" fn rassemok_emit_roundtrip(deck: &[u8], pool: &[u8], out: &mut [u8]) -> Answer
+    ensures { λ r. ⌜ outcomeOf r (now (out .exit)) ≡ outcome emitRoundtrip (lent (now (deck .entry)) (now (pool .entry)) (now (out .entry))) ⌝ }
+{
+    emit_roundtrip(deck, pool, out)
+}
+
+#[no_mangle]
+pub extern "C" fn rassemok_emit_roundtrip_with(
+    deck: &[u8],
+    pool: &[u8],
+    out: &mut [u8],
+    null_style: usize,
+) -> Answer
+    ensures { λ r. ⌜ outcomeOf r (now (out .exit)) ≡ outcome (emitRoundtripWith (nullStyleOf «null_style»)) (lent (now (deck .entry)) (now (pool .entry)) (now (out .entry))) ⌝ }
+{
+    let style = null_style_of(null_style);
+    emit_roundtrip_with(deck, pool, out, style)
+}
+
+#[no_mangle]
+pub extern "C" fn rassemok_emit_roundtrip_all_with(
+    deck: &[u8],
+    pool: &[u8],
+    out: &mut [u8],
+    null_style: usize,
+) -> Answer
+    ensures { λ r. ⌜ outcomeOf r (now (out .exit)) ≡ outcome (emitRoundtripAllWith (nullStyleOf «null_style»)) (lent (now (deck .entry)) (now (pool .entry)) (now (out .entry))) ⌝ }
+{
+    let style = null_style_of(null_style);
+    emit_roundtrip_all_with(deck, pool, out, style)
+}
+
+#[no_mangle]
+pub extern "C" fn rassemok_emit_roundtrip_dump(
+    deck: &[u8],
+    pool: &[u8],
+    out: &mut [u8],
+    options: Options,
+) -> Answer
+    ensures { λ r. ⌜ outcomeOf r (now (out .exit)) ≡ outcome (emitRoundtripDump (settingsOf options)) (lent (now (deck .entry)) (now (pool .entry)) (now (out .entry))) ⌝ }
+{
+    let settings = settings_of(options);
+    emit_roundtrip_dump(deck, pool, out, settings)
+}
