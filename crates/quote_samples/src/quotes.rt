@@ -1,9 +1,9 @@
 // Quoted bodies, folded or not.
 ghost use Prim.Native.Nat.{_≤_};
 ghost use lib.ListN.{length};
-use crate::row::fresh;
-use crate::row::wrote;
 use quoted::Fold;
+use sampling::fresh;
+use sampling::wrote;
 
 // The body of a text in double quotes.
 fn double(name: &[u8], t: &[u8], want: &[u8])

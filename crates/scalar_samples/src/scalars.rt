@@ -1,10 +1,10 @@
 // Scalars at the root, in flow and as keys, and the separators of flow entries.
 ghost use Prim.Native.Nat.{_≤_};
 ghost use lib.ListN.{length};
-use crate::row::fresh;
-use crate::row::settings;
-use crate::row::wrote;
 use definition::Style;
+use sampling::fresh;
+use sampling::settings;
+use sampling::wrote;
 
 // A style by a letter, or by its marker.
 fn style_of(letter: u8) -> Style {
