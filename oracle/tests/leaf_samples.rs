@@ -1,4 +1,4 @@
-//! crates/leaf_samples expects what the Rust answers: every row of its tables is read from its source and replayed here.
+//! The programs of samples (crates/*_samples) expect what the Rust answers: every row of their tables is read from its source and replayed here.
 
 mod common;
 
@@ -16,6 +16,15 @@ enum Term {
     Not(Box<Term>),
     Apply(String, Vec<Term>),
 }
+
+/// The programs of samples, and the files of their tables.
+const TABLES: [(&str, &str); 5] = [
+    ("quote_samples", "quotes"),
+    ("line_samples", "lines"),
+    ("scalar_samples", "scalars"),
+    ("text_samples", "texts"),
+    ("deck_samples", "decks"),
+];
 
 /// A row's function and arguments.
 type Row = (String, Vec<Term>);
@@ -41,10 +50,10 @@ fn every_row_is_what_the_rust_answers() {
 
 /// The rows of all tables: the calls that are statements of functions without parameters.
 fn rows() -> Vec<Row> {
-    let folder = Path::new("../crates/leaf_samples/src");
     let mut found = Vec::new();
-    for file in ["quotes", "lines", "scalars", "texts", "decks"] {
-        let text = fs::read_to_string(folder.join(format!("{file}.rt"))).unwrap();
+    for (program, file) in TABLES {
+        let place = Path::new("../crates").join(program).join("src");
+        let text = fs::read_to_string(place.join(format!("{file}.rt"))).unwrap();
         for table in text.split("\npub fn ").skip(1) {
             let (_, inside) = table.split_once("() {\n").unwrap();
             let inside = &inside[..inside.find("\n}").unwrap()];

@@ -1,45 +1,52 @@
 // Quoted bodies, folded or not.
 ghost use Prim.Native.Nat.{_≤_};
 ghost use lib.ListN.{length};
-use crate::row::fresh;
-use crate::row::wrote;
 use quoted::Fold;
+use sampling::fresh;
+use sampling::wrote;
 
-// The body of a text in double quotes.
-fn double(name: &[u8], t: &[u8], want: &[u8])
+// The body of a text in quotes.
+fn body(name: &[u8], t: &[u8], single: bool, want: &[u8])
     requires { ⌜ length (now t) ≤ 256 ⌝ }
 {
     let mut out = [0u8; 256];
-    let w = quoted::put_body(fresh(0), &mut out, t, false);
+    let w = quoted::put_body(fresh(0), &mut out, t, single);
     wrote(name, w, &mut out, want);
+}
+
+fn double(name: &[u8], t: &[u8], want: &[u8])
+    requires { ⌜ length (now t) ≤ 256 ⌝ }
+{
+    body(name, t, false, want);
 }
 
 fn single(name: &[u8], t: &[u8], want: &[u8])
     requires { ⌜ length (now t) ≤ 256 ⌝ }
 {
+    body(name, t, true, want);
+}
+
+// A body folded: it begins at the column `start`, and later lines at `f.indent`.
+fn folded(name: &[u8], t: &[u8], single: bool, start: usize, f: Fold, want: &[u8])
+    requires { ⌜ (length (now t) ≤ 256) × (start ≤ 256) × (f .indent ≤ 256) ⌝ }
+{
     let mut out = [0u8; 256];
-    let w = quoted::put_body(fresh(0), &mut out, t, true);
+    let w = quoted::put_folded(fresh(start), &mut out, t, single, start, f);
     wrote(name, w, &mut out, want);
 }
 
-// A body in double quotes folded: it begins at the column `start`, and later lines at `indent`.
+// In double quotes.
 fn fold(name: &[u8], t: &[u8], start: usize, indent: usize, width: usize, want: &[u8])
     requires { ⌜ (length (now t) ≤ 256) × (start ≤ 256) × (indent ≤ 256) ⌝ }
 {
-    let mut out = [0u8; 256];
-    let f = Fold { indent, width };
-    let w = quoted::put_folded(fresh(start), &mut out, t, false, start, f);
-    wrote(name, w, &mut out, want);
+    folded(name, t, false, start, Fold { indent, width }, want);
 }
 
-// The same in single quotes, from column 0 to column 1.
+// In single quotes, from column 0 to column 1.
 fn fold_single(name: &[u8], t: &[u8], width: usize, want: &[u8])
     requires { ⌜ length (now t) ≤ 256 ⌝ }
 {
-    let mut out = [0u8; 256];
-    let f = Fold { indent: 1, width };
-    let w = quoted::put_folded(fresh(0), &mut out, t, true, 0, f);
-    wrote(name, w, &mut out, want);
+    folded(name, t, true, 0, Fold { indent: 1, width }, want);
 }
 
 pub fn document_01() {

@@ -1,4 +1,6 @@
-// What every table shares: a fresh writer, plain settings, and the comparison of what was written.
+// What the programs of samples share. Each of them runs proved leaves and compares what they write or answer with what was expected. A sample is
+// one line of a table; `name: ok` or `name: DIFFERS` is written for it, and the program's file stdout holds the lines that are expected.
+// The oracle's test leaf_samples reads the tables and replays them through the Rust.
 ghost use mathlib.Core.Path.{_≡_};
 use definition::NullStyle;
 use definition::Settings;

@@ -1,9 +1,9 @@
--- `row::begins` takes a part that is there.
+-- `begins` takes a part that is there.
 use mathlib.Core.Path.{sym}
 use lib.Seq.{length-take-le}
 use borrow.Author.Needs.{needs}
-use Rattle.leaf_samples.proofs.row.begins.Statement.{statement}
-use Rattle.leaf_samples.proofs.row.begins.Tie as tie
+use Rattle.sampling.proofs.begins.Statement.{statement}
+use Rattle.sampling.proofs.begins.Tie as tie
 
 returns : tie.Need-returns
 returns c = search needs

@@ -1,10 +1,10 @@
--- `decks::unhex` stays inside the deck: two digits are read for each byte that is written.
+-- `unhex` stays inside the deck: two digits are read for each byte that is written.
 use Prim.Native.Nat.{_*_, _-_, _≤_}
 use mathlib.Core.Path.{_≡_}
 use lib.ListN.{length}
 use borrow.Author.Needs.{needs}
-use Rattle.leaf_samples.proofs.decks.unhex.Statement.{statement}
-use Rattle.leaf_samples.proofs.decks.unhex.Tie as tie
+use Rattle.judging.proofs.unhex.Statement.{statement}
+use Rattle.judging.proofs.unhex.Tie as tie
 
 abbrev Inv-loop : tie.InvT-loop
 Inv-loop t deck₀ i₀ at₀ deck i at = (length deck ≡ length deck₀) × (i ≡ 2 * at) × (i ≤ length t)

@@ -1,9 +1,9 @@
--- `decks::judged` takes a part that is there.
+-- `judged` takes a part that is there.
 use mathlib.Core.Path.{sym}
 use lib.Seq.{length-take-le}
 use borrow.Author.Needs.{needs}
-use Rattle.leaf_samples.proofs.decks.judged.Statement.{statement}
-use Rattle.leaf_samples.proofs.decks.judged.Tie as tie
+use Rattle.judging.proofs.judged.Statement.{statement}
+use Rattle.judging.proofs.judged.Tie as tie
 
 slice-aggregate-judge : tie.Need-slice-aggregate-judge
 slice-aggregate-judge c = sym (length-take-le _ _ (c .before .before .before .pre))

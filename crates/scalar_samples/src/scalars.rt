@@ -1,10 +1,11 @@
 // Scalars at the root, in flow and as keys, and the separators of flow entries.
 ghost use Prim.Native.Nat.{_≤_};
 ghost use lib.ListN.{length};
-use crate::row::fresh;
-use crate::row::settings;
-use crate::row::wrote;
+use definition::Settings;
 use definition::Style;
+use sampling::fresh;
+use sampling::settings;
+use sampling::wrote;
 
 // A style by a letter, or by its marker.
 fn style_of(letter: u8) -> Style {
@@ -17,44 +18,65 @@ fn style_of(letter: u8) -> Style {
     }
 }
 
-// The scalar of a document; a block scalar's lines stand at column 2.
+// A scalar where the writer stands at a column, in flow unless it is column 0; a block scalar's lines stand at column 2.
+fn put(name: &[u8], s: Settings, column: usize, key: bool, style: Style, t: &[u8], want: &[u8])
+    requires { ⌜ (length (now t) ≤ 256) × (column ≤ 1) ⌝ }
+{
+    let mut out = [0u8; 256];
+    let w = scalar::put_scalar(fresh(column), &mut out, s, column > 0, key, t, style, 2);
+    wrote(name, w, &mut out, want);
+}
+
+// The scalar of a document.
 fn root(name: &[u8], style: u8, width: usize, t: &[u8], want: &[u8])
     requires { ⌜ length (now t) ≤ 256 ⌝ }
 {
-    let mut out = [0u8; 256];
-    let s = settings(width, false);
-    let w = scalar::put_scalar(fresh(0), &mut out, s, false, false, t, style_of(style), 2);
-    wrote(name, w, &mut out, want);
+    put(
+        name,
+        settings(width, false),
+        0,
+        false,
+        style_of(style),
+        t,
+        want,
+    );
 }
 
 // The first item of a flow sequence: it stands at column 1.
 fn flow(name: &[u8], style: u8, width: usize, t: &[u8], want: &[u8])
     requires { ⌜ length (now t) ≤ 256 ⌝ }
 {
-    let mut out = [0u8; 256];
-    let s = settings(width, false);
-    let w = scalar::put_scalar(fresh(1), &mut out, s, true, false, t, style_of(style), 2);
-    wrote(name, w, &mut out, want);
+    put(
+        name,
+        settings(width, false),
+        1,
+        false,
+        style_of(style),
+        t,
+        want,
+    );
 }
 
 // A key.
 fn key(name: &[u8], style: u8, width: usize, t: &[u8], want: &[u8])
     requires { ⌜ length (now t) ≤ 256 ⌝ }
 {
-    let mut out = [0u8; 256];
-    let s = settings(width, false);
-    let w = scalar::put_scalar(fresh(0), &mut out, s, false, true, t, style_of(style), 0);
-    wrote(name, w, &mut out, want);
+    put(
+        name,
+        settings(width, false),
+        0,
+        true,
+        style_of(style),
+        t,
+        want,
+    );
 }
 
 // A plain scalar as the first item of a flow sequence, where single quotes are asked for.
 fn asked(name: &[u8], width: usize, t: &[u8], want: &[u8])
     requires { ⌜ length (now t) ≤ 256 ⌝ }
 {
-    let mut out = [0u8; 256];
-    let s = settings(width, true);
-    let w = scalar::put_scalar(fresh(1), &mut out, s, true, false, t, Style::Plain, 2);
-    wrote(name, w, &mut out, want);
+    put(name, settings(width, true), 1, false, Style::Plain, t, want);
 }
 
 // What stands between two entries, where the first ends at a column.

@@ -1,7 +1,7 @@
 // Block scalars, comments and raw text.
 ghost use Prim.Native.Nat.{_≤_};
-use crate::row::fresh;
-use crate::row::wrote;
+use sampling::fresh;
+use sampling::wrote;
 
 // A text as a block scalar: header and body.
 fn block(name: &[u8], t: &[u8], marker: u8, indent: usize, want: &[u8]) {

@@ -1,5 +1,5 @@
 // Characters, UTF-8, and the tests of a text.
-use crate::row::is;
+use sampling::is;
 
 pub fn printable() {
     is(b"U+0000 not printable", chars::is_non_printable(0));

@@ -1,10 +1,10 @@
--- `decks::tower` stays inside the deck.
+-- `tower` stays inside the deck.
 use Prim.Native.Nat.{_-_, _≤_}
 use mathlib.Core.Path.{_≡_}
 use lib.ListN.{length}
 use borrow.Author.Needs.{needs}
-use Rattle.leaf_samples.proofs.decks.tower.Statement.{statement}
-use Rattle.leaf_samples.proofs.decks.tower.Tie as tie
+use Rattle.judging.proofs.tower.Statement.{statement}
+use Rattle.judging.proofs.tower.Tie as tie
 
 abbrev Inv-loop : tie.InvT-loop
 Inv-loop deck₀ size at₀ deck at = (length deck ≡ length deck₀) × (at ≤ size)
