@@ -34,8 +34,9 @@ use Rattle.spot.specs.Good.{Good, good-at, countIn, few-at}
 use Rattle.atoms.specs.Atoms.{on}
 use Rattle.choices.specs.Choices.{blockIn, noneIn, includedIn, rootColumnIn, bareRootIn, block-is, included-is, root-column-is, bare-root-is}
 use Rattle.joints.specs.Entries.{nodeAt, nextAt}
-use Rattle.flow.specs.Ready.{Ready, Emits}
-use Rattle.document.specs.Begun.{Begun, begun-emits}
+use Rattle.flow.specs.Ready.{Emits}
+use Rattle.layout.specs.Calm.{Calm}
+use Rattle.document.specs.Root.{calm-emits}
 use Rattle.document.specs.Pieces.{bomIn, startIn, stopIn, opened, separationIn, firstOf, laterOf, blockRoot, lineRoot, rootOf, bom-is, separation-is}
 
 pub spot-good : (deck : Bytes) (c : Cursor) (x : Spot) → c .at ≤ length deck → length deck ≤ 65536 → x ≡ spotAt deck c → Good deck x × (c .at ≤ x .place) × (x .place ≤ length deck)
@@ -235,10 +236,10 @@ module _ (s : Settings) (deck pool : Bytes) where
   pub record Pending (P₀ : Pen) (left₀ : ℕ) (here₀ : Cursor) (P : Pen) (left : ℕ) (here : Cursor) : Type 0 where
     pub same : ink s (restOf left here) P ≡ ink s (restOf left₀ here₀) P₀
     pub size : length (P .out) ≡ length (P₀ .out)
-    pub begun : Begun s deck pool P (here .at)
+    pub calm : Calm s deck pool P (here .at) 0
 
-  pub rest-start : (P : Pen) (n : ℕ) (c : Cursor) → Begun s deck pool P (c .at) → Pending P n c P n c
-  rest-start P n c b = record { same = refl; size = refl; begun = b }
+  pub rest-start : (P : Pen) (n : ℕ) (c : Cursor) → Calm s deck pool P (c .at) 0 → Pending P n c P n c
+  rest-start P n c b = record { same = refl; size = refl; calm = b }
 
   pub rest-turn :
       (P₀ : Pen) (left₀ : ℕ) (here₀ : Cursor) (P Q : Pen) (left : ℕ) (here next : Cursor) → Pending P₀ left₀ here₀ P left here → 0 < left → here .at < length deck
@@ -251,7 +252,7 @@ module _ (s : Settings) (deck pool : Bytes) where
       record {
         same = u ∙ sym t ∙ g .same;
         size = length-of s (laterOf s (nodeAt deck pool here)) P Q (m .drawn) ∙ g .size;
-        begun = begun-emits (g .begun) m;
+        calm = calm-emits (g .calm) m;
       }
 
   pub rest-end :

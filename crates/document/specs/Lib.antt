@@ -1,2 +1,2 @@
-pub mod Begun
+pub mod Root
 pub mod Pieces

@@ -17,12 +17,12 @@ ghost use Rattle.pen.specs.Pen.{pen, ink, ended};
 ghost use Rattle.pen.specs.Shown.{fresh};
 ghost use Rattle.parts.specs.Draws.{Draws};
 ghost use Rattle.parts.specs.Runs.{Short};
-ghost use Rattle.spot.specs.Spot.{kindIn, endIn, nodeIn, spotAt};
+ghost use Rattle.spot.specs.Spot.{endIn, nodeIn, spotAt};
 ghost use Rattle.spot.specs.Good.{Good, countIn};
 ghost use Rattle.choices.specs.Choices.{includedIn};
 ghost use Rattle.joints.specs.Entries.{nodeAt, nextAt};
-ghost use Rattle.flow.specs.Ready.{Ready, Emits};
-ghost use Rattle.document.specs.Begun.{Begun};
+ghost use Rattle.flow.specs.Ready.{Emits};
+ghost use Rattle.layout.specs.Calm.{Calm};
 ghost use Rattle.document.specs.Pieces.{bomIn, startIn, stopIn, opened, separationIn, firstOf, laterOf, blockRoot, lineRoot, rootOf};
 
 fn put_dashes(w: Writer, out: &mut [u8]) -> Writer
@@ -110,7 +110,7 @@ fn put_block(
     settings: Settings,
     x: Spot,
 ) -> Emitted
-    requires { ⌜ Begun settings (now deck) (now pool) (pen w (now out)) (x .place) × Good (now deck) x × (countIn (x .body) < 65536) ⌝ }
+    requires { ⌜ (Calm settings (now deck) (now pool) (pen w (now out)) (x .place) 0) × Good (now deck) x × (countIn (x .body) < 65536) ⌝ }
     ensures { λ r. ⌜ Emits settings (blockRoot settings (now (deck .entry)) (now (pool .entry)) x) (pen w (now (out .entry))) (pen (r .w) (now (out .exit))) (x .place) (endIn (now (deck .entry)) (now (pool .entry)) x) (r .next) (length (now (deck .entry))) ⌝ }
 {
     let lead = x.lead;
@@ -129,7 +129,7 @@ fn put_inlined(
     settings: Settings,
     x: Spot,
 ) -> Emitted
-    requires { ⌜ Begun settings (now deck) (now pool) (pen w (now out)) (x .place) × Good (now deck) x × (countIn (x .body) < 65536) ⌝ }
+    requires { ⌜ (Calm settings (now deck) (now pool) (pen w (now out)) (x .place) 0) × Good (now deck) x × (countIn (x .body) < 65536) ⌝ }
     ensures { λ r. ⌜ Emits settings (lineRoot settings (now (deck .entry)) (now (pool .entry)) x) (pen w (now (out .entry))) (pen (r .w) (now (out .exit))) (x .place) (endIn (now (deck .entry)) (now (pool .entry)) x) (r .next) (length (now (deck .entry))) ⌝ }
 {
     let lead = x.lead;
@@ -151,7 +151,7 @@ fn put_body(
     settings: Settings,
     x: Spot,
 ) -> Emitted
-    requires { ⌜ Begun settings (now deck) (now pool) (pen w (now out)) (x .place) × Good (now deck) x × (countIn (x .body) < 65536) ⌝ }
+    requires { ⌜ (Calm settings (now deck) (now pool) (pen w (now out)) (x .place) 0) × Good (now deck) x × (countIn (x .body) < 65536) ⌝ }
     ensures { λ r. ⌜ Emits settings (body settings (nodeIn (now (deck .entry)) (now (pool .entry)) x)) (pen w (now (out .entry))) (pen (r .w) (now (out .exit))) (x .place) (endIn (now (deck .entry)) (now (pool .entry)) x) (r .next) (length (now (deck .entry))) ⌝ }
 {
     let lead = x.lead;
@@ -195,7 +195,7 @@ fn put_root(
     x: Spot,
     passed: bool,
 ) -> Emitted
-    requires { ⌜ Begun settings (now deck) (now pool) (pen w (now out)) (c .at) × (x ≡ spotAt (now deck) c) ⌝ }
+    requires { ⌜ (Calm settings (now deck) (now pool) (pen w (now out)) (c .at) 0) × (x ≡ spotAt (now deck) c) ⌝ }
     ensures { λ r. ⌜ Emits settings (rootOf settings (now (deck .entry)) (now (pool .entry)) passed x) (pen w (now (out .entry))) (pen (r .w) (now (out .exit))) (c .at) (nextAt (now (deck .entry)) (now (pool .entry)) c) (r .next) (length (now (deck .entry))) ⌝ }
 {
     let lead = x.lead;
@@ -218,7 +218,7 @@ fn put_document(
     x: Spot,
     passed: bool,
 ) -> Emitted
-    requires { ⌜ Begun settings (now deck) (now pool) (pen w (now out)) (c .at) × (x ≡ spotAt (now deck) c) ⌝ }
+    requires { ⌜ (Calm settings (now deck) (now pool) (pen w (now out)) (c .at) 0) × (x ≡ spotAt (now deck) c) ⌝ }
     ensures { λ r. ⌜ Emits settings (document settings passed (nodeAt (now (deck .entry)) (now (pool .entry)) c)) (pen w (now (out .entry))) (pen (r .w) (now (out .exit))) (c .at) (nextAt (now (deck .entry)) (now (pool .entry)) c) (r .next) (length (now (deck .entry))) ⌝ }
 {
     let lead = x.lead;
@@ -240,7 +240,7 @@ fn put_first(
     c: Cursor,
     passed: bool,
 ) -> Emitted
-    requires { ⌜ Begun settings (now deck) (now pool) (pen w (now out)) (c .at) ⌝ }
+    requires { ⌜ Calm settings (now deck) (now pool) (pen w (now out)) (c .at) 0 ⌝ }
     ensures { λ r. ⌜ Emits settings (firstOf settings passed (nodeAt (now (deck .entry)) (now (pool .entry)) c)) (pen w (now (out .entry))) (pen (r .w) (now (out .exit))) (c .at) (nextAt (now (deck .entry)) (now (pool .entry)) c) (r .next) (length (now (deck .entry))) ⌝ }
 {
     let x = spot::spot_at(deck, c);
@@ -260,7 +260,7 @@ fn put_one(
     c: Cursor,
     passed: bool,
 ) -> Emitted
-    requires { ⌜ Begun settings (now deck) (now pool) (pen w (now out)) (c .at) ⌝ }
+    requires { ⌜ Calm settings (now deck) (now pool) (pen w (now out)) (c .at) 0 ⌝ }
     ensures { λ r. ⌜ Emits settings (oneDocument settings passed (nodeAt (now (deck .entry)) (now (pool .entry)) c)) (pen w (now (out .entry))) (pen (r .w) (now (out .exit))) (c .at) (nextAt (now (deck .entry)) (now (pool .entry)) c) (r .next) (length (now (deck .entry))) ⌝ }
 {
     let e = put_first(w, deck, pool, out, settings, c, passed);
@@ -279,7 +279,7 @@ fn put_later(
     settings: Settings,
     c: Cursor,
 ) -> Emitted
-    requires { ⌜ Begun settings (now deck) (now pool) (pen w (now out)) (c .at) ⌝ }
+    requires { ⌜ Calm settings (now deck) (now pool) (pen w (now out)) (c .at) 0 ⌝ }
     ensures { λ r. ⌜ Emits settings (laterOf settings (nodeAt (now (deck .entry)) (now (pool .entry)) c)) (pen w (now (out .entry))) (pen (r .w) (now (out .exit))) (c .at) (nextAt (now (deck .entry)) (now (pool .entry)) c) (r .next) (length (now (deck .entry))) ⌝ }
 {
     let x = spot::spot_at(deck, c);
@@ -298,7 +298,7 @@ fn put_rest(
     c: Cursor,
     n: usize,
 ) -> Writer
-    requires { ⌜ Begun settings (now deck) (now pool) (pen w (now out)) (c .at) ⌝ }
+    requires { ⌜ Calm settings (now deck) (now pool) (pen w (now out)) (c .at) 0 ⌝ }
     ensures { λ r. ⌜ pen r (now (out .exit)) ≡ ink settings (laterDocuments settings (treesFrom (now (deck .entry)) (now (pool .entry)) n c)) (pen w (now (out .entry))) ⌝ }
 {
     let mut v = w;
@@ -318,7 +318,7 @@ fn put_rest(
 
 // `emit_roundtrip_all_with`
 fn put_all(w: Writer, deck: &[u8], pool: &[u8], out: &mut [u8], settings: Settings) -> Writer
-    requires { ⌜ Begun settings (now deck) (now pool) (pen w (now out)) 0 ⌝ }
+    requires { ⌜ Calm settings (now deck) (now pool) (pen w (now out)) 0 0 ⌝ }
     ensures { λ r. ⌜ pen r (now (out .exit)) ≡ ink settings (allDocuments settings (treesOf (now (deck .entry)) (now (pool .entry)))) (pen w (now (out .entry))) ⌝ }
 {
     let n = deck.len();
@@ -359,7 +359,7 @@ pub fn write_one(
     c: Cursor,
     passed: bool,
 ) -> Writer
-    requires { ⌜ Begun settings (now deck) (now pool) (pen w (now out)) (c .at) ⌝ }
+    requires { ⌜ Calm settings (now deck) (now pool) (pen w (now out)) (c .at) 0 ⌝ }
     ensures { λ r. ⌜ pen r (now (out .exit)) ≡ ended (ink settings (oneDocument settings passed (nodeAt (now (deck .entry)) (now (pool .entry)) c)) (pen w (now (out .entry)))) ⌝ }
 {
     let e = put_one(w, deck, pool, out, settings, c, passed);
@@ -369,7 +369,7 @@ pub fn write_one(
 
 // All documents, to the end of their file.
 pub fn write_all(w: Writer, deck: &[u8], pool: &[u8], out: &mut [u8], settings: Settings) -> Writer
-    requires { ⌜ Begun settings (now deck) (now pool) (pen w (now out)) 0 ⌝ }
+    requires { ⌜ Calm settings (now deck) (now pool) (pen w (now out)) 0 0 ⌝ }
     ensures { λ r. ⌜ pen r (now (out .exit)) ≡ ended (ink settings (allDocuments settings (treesOf (now (deck .entry)) (now (pool .entry)))) (pen w (now (out .entry)))) ⌝ }
 {
     let v = put_all(w, deck, pool, out, settings);

@@ -26,7 +26,8 @@ use Rattle.judge.specs.Judge.{verdictOf}
 use Rattle.agree.specs.Accepted as agreed
 use Rattle.joints.specs.Entries.{nodeAt}
 use Rattle.told.specs.Outcome.{Settled, Small, Judged, one-judged, all-judged, refused-1, refused-2, refused-read, one-refused-8, lent, told, told-fits, told-over, one-told, all-told}
-use Rattle.document.specs.Begun.{Begun, begin}
+use Rattle.layout.specs.Calm.{Calm}
+use Rattle.document.specs.Root.{begin}
 use Rattle.rassemok.specs.declared.Answer.{Answer}
 use Rattle.rassemok.specs.Answer.{outcomeOf, refusal, written, Tells}
 use Rattle.rassemok.specs.Limits.{limitOf}
@@ -103,7 +104,7 @@ module _ (s : Settings) (deck pool orig : Bytes) where
 
     -- ---- the emission
 
-    pub begin-at : (w : Writer) → w ≡ fresh (s .width) 0 0 → ((i : ℕ) → getD orig i 0 < 256) → Begun s deck pool (pen w orig) 0
+    pub begin-at : (w : Writer) → w ≡ fresh (s .width) 0 0 → ((i : ℕ) → getD orig i 0 < 256) → Calm s deck pool (pen w orig) 0 0
     begin-at w f b = rw f (begin s deck pool orig (s .width) (l .deck) (l .pool) (l .output) (z .indent) b)
 
     pub one-answered :

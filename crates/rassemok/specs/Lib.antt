@@ -1,3 +1,3 @@
 pub mod Answer
-pub mod Limits
 pub mod Options
+pub mod Limits

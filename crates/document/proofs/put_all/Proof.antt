@@ -1,6 +1,6 @@
+use Rattle.document.specs.Root.{calm-emits}
 use native.Mathlib.Omega.{arith}
 use mathlib.Core.Path.{refl}
-use Rattle.document.specs.Begun.{begun-emits}
 use Rattle.document.proofs.Laws.{all-none, all-whole}
 use borrow.Author.Needs.{needs}
 use Rattle.document.proofs.put_all.Statement.{statement}
@@ -24,7 +24,7 @@ sub-put-rest c = search needs
 
 -- src/lib.rt:344:5
 put-rest-requires : tie.Need-put-rest-requires
-put-rest-requires c κs = begun-emits (c .before .before .before .before .before .before .before .before .before .before .before .pre) (c .before .before .before .before .before .put-first .ensures)
+put-rest-requires c κs = calm-emits (c .before .before .before .before .before .before .before .before .before .before .before .pre) (c .before .before .before .before .before .put-first .ensures)
 
 -- src/lib.rt:332:1
 same-length : tie.Need-same-length

@@ -1,5 +1,6 @@
+use Rattle.layout.specs.Calm.{calm-drawn}
+use Rattle.document.specs.Root.{root-calm}
 use native.Mathlib.Omega.{arith}
-use Rattle.document.specs.Begun.{begun-drawn, begun-calm}
 use Rattle.document.proofs.Laws.{block-whole}
 use borrow.Author.Needs.{needs}
 use Rattle.document.proofs.put_block.Statement.{statement}
@@ -20,7 +21,7 @@ put-props-line-requires c κs = search needs
 
 -- src/lib.rt:138:5
 put-members-requires : tie.Need-put-members-requires
-put-members-requires c κs = let p = (c .before .before .before .before .before .before .before .before .before .before .pre) in let b = begun-drawn (p .0) (c .before .before .before .put-props-line .ensures) in (begun-calm b _ _ (p .1 .ahead) (p .1 .within) (c .before .before .before .before .before .root-column .ensures .1 (p .0 .ready .step)), p .1, p .2)
+put-members-requires c κs = let p = (c .before .before .before .before .before .before .before .before .before .before .pre) in let b = calm-drawn (p .0) (c .before .before .before .put-props-line .ensures) in (root-calm b _ _ (p .1 .ahead) (p .1 .within) (c .before .before .before .before .before .root-column .ensures .1 (p .0 .ready .step)), p .1, p .2)
 
 -- src/lib.rt:123:1
 same-length : tie.Need-same-length

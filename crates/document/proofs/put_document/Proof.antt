@@ -1,6 +1,6 @@
+use Rattle.layout.specs.Calm.{calm-drawn, calm-after}
 use native.Mathlib.Omega.{arith}
 use Rattle.parts.specs.Runs.{repeated}
-use Rattle.document.specs.Begun.{begun-drawn, begun-after}
 use Rattle.document.proofs.Laws.{spot-good, document-whole}
 use borrow.Author.Needs.{needs}
 use Rattle.document.proofs.put_document.Statement.{statement}
@@ -17,11 +17,11 @@ put-opening-requires c κs = let r = (c .before .before .before .before .before 
 
 -- src/lib.rt:237:9
 put-root-requires : tie.Need-put-root-requires
-put-root-requires c κs = (begun-drawn ((c .before .before .before .before .before .before .before .before .before .pre) .0) (c .before .before .before .put-opening .ensures), (c .before .before .before .before .before .before .before .before .before .pre) .1)
+put-root-requires c κs = (calm-drawn ((c .before .before .before .before .before .before .before .before .before .pre) .0) (c .before .before .before .put-opening .ensures), (c .before .before .before .before .before .before .before .before .before .pre) .1)
 
 -- src/lib.rt:240:9
 put-repeated-requires : tie.Need-put-repeated-requires
-put-repeated-requires c κs = let r = (c .before .before .before .before .before .before .before .before .before .before .before .before .before .before .before .pre) .0 .ready in let g = spot-good _ _ _ (r .here) (r .deck-small) ((c .before .before .before .before .before .before .before .before .before .before .before .before .before .before .before .pre) .1) in let b = begun-after (begun-drawn ((c .before .before .before .before .before .before .before .before .before .before .before .before .before .before .before .pre) .0) (c .before .before .before .before .before .before .before .before .before .put-opening .ensures)) _ _ (c .before .before .before .before .before .put-root .ensures .drawn) in (let o = b .ready .out-small in omega (arith, o), g .0 .short)
+put-repeated-requires c κs = let r = (c .before .before .before .before .before .before .before .before .before .before .before .before .before .before .before .pre) .0 .ready in let g = spot-good _ _ _ (r .here) (r .deck-small) ((c .before .before .before .before .before .before .before .before .before .before .before .before .before .before .before .pre) .1) in let b = calm-after (calm-drawn ((c .before .before .before .before .before .before .before .before .before .before .before .before .before .before .before .pre) .0) (c .before .before .before .before .before .before .before .before .before .put-opening .ensures)) _ _ _ (c .before .before .before .before .before .put-root .ensures .drawn) in (let o = b .ready .out-small in omega (arith, o), g .0 .short)
 
 -- src/lib.rt:222:1
 same-length : tie.Need-same-length

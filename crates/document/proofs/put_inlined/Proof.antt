@@ -1,5 +1,5 @@
+use Rattle.layout.specs.Calm.{calm-drawn, calm-after, in-line}
 use native.Mathlib.Omega.{arith}
-use Rattle.document.specs.Begun.{begun-drawn, begun-at, begun-after}
 use Rattle.document.proofs.Laws.{line-whole}
 use borrow.Author.Needs.{needs}
 use Rattle.document.proofs.put_inlined.Statement.{statement}
@@ -21,11 +21,11 @@ step-of-requires c κs = search needs
 
 -- src/lib.rt:156:9
 content-requires : tie.Need-content-requires
-content-requires c κs = let p = (c .before .before .before .before .before .before .before .before .before .before .pre) in let b = begun-drawn (p .0) (c .before .before .before .before .put-props .ensures) in (begun-at b _ (c .before .step-of .ensures .1 (p .0 .ready .step)), p .1, p .2)
+content-requires c κs = let p = (c .before .before .before .before .before .before .before .before .before .before .pre) in let b = calm-drawn (p .0) (c .before .before .before .before .put-props .ensures) in let n = c .before .step-of .ensures .1 (p .0 .ready .step) in (in-line b _ _ (omega arith) (b .ready .here) (omega (arith, n)), p .1, p .2)
 
 -- src/lib.rt:159:9
 put-close-requires : tie.Need-put-close-requires
-put-close-requires c κs = let p = (c .before .before .before .before .before .before .before .before .before .before .before .before .before .before .before .before .pre) in let b = begun-after (begun-drawn (p .0) (c .before .before .before .before .before .before .before .before .before .before .put-props .ensures)) _ _ (c .before .before .before .before .before .content .ensures .drawn) in (let o = b .ready .out-small in omega (arith, o), (let h = b .ready .here in let d = b .ready .deck-small in omega (arith, h, d)))
+put-close-requires c κs = let p = (c .before .before .before .before .before .before .before .before .before .before .before .before .before .before .before .before .pre) in let b = calm-after (calm-drawn (p .0) (c .before .before .before .before .before .before .before .before .before .before .put-props .ensures)) _ _ _ (c .before .before .before .before .before .content .ensures .drawn) in (let o = b .ready .out-small in omega (arith, o), (let h = b .ready .here in let d = b .ready .deck-small in omega (arith, h, d)))
 
 -- src/lib.rt:142:1
 same-length : tie.Need-same-length

@@ -28,7 +28,7 @@ returns c = rest-end _ _ _ _ _ _ _ _ _ (c .before .before .before .loop .inv) (c
 
 -- src/lib.rt:322:13
 put-later-requires : tie.Need-put-later-requires Inv-loop μ-loop
-put-later-requires c κs = c .before .before .before .before .loop .inv .begun
+put-later-requires c κs = c .before .before .before .before .loop .inv .calm
 
 -- src/lib.rt:325:9
 sub-left : tie.Need-sub-left Inv-loop μ-loop

@@ -1,6 +1,6 @@
+use Rattle.layout.specs.Calm.{calm-further}
 use mathlib.Core.Path.{sym, _∙_}
 use native.Mathlib.Omega.{arith}
-use Rattle.document.specs.Begun.{begun-further}
 use Rattle.document.proofs.Laws.{spot-good, few-spot, root-directed, root-body}
 use borrow.Author.Needs.{needs}
 use Rattle.document.proofs.put_root.Statement.{statement}
@@ -34,7 +34,7 @@ returns c = root-directed _ _ _ _ _ _ _ (sym (c .before .before .before .before 
 
 -- src/lib.rt:218:5
 put-body-requires : tie.Need-put-body-requires
-put-body-requires c κs = let b = (c .before .before .before .before .before .before .before .pre) .0 in let r = b .ready in let g = spot-good _ _ _ (r .here) (r .deck-small) ((c .before .before .before .before .before .before .before .pre) .1) in (begun-further b _ (g .1) (g .2), g .0, few-spot _ (λ k. omega (arith, c .before .before .before .before .before .before .shared-slice-known .given k)) _ _ (r .here) ((c .before .before .before .before .before .before .before .pre) .1))
+put-body-requires c κs = let b = (c .before .before .before .before .before .before .before .pre) .0 in let r = b .ready in let g = spot-good _ _ _ (r .here) (r .deck-small) ((c .before .before .before .before .before .before .before .pre) .1) in (calm-further b _ (g .1) (g .2), g .0, few-spot _ (λ k. omega (arith, c .before .before .before .before .before .before .shared-slice-known .given k)) _ _ (r .here) ((c .before .before .before .before .before .before .before .pre) .1))
 
 -- src/lib.rt:199:1
 same-length-2 : tie.Need-same-length-2

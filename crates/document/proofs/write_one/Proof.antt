@@ -1,6 +1,6 @@
+use Rattle.layout.specs.Calm.{calm-after}
 use mathlib.Core.Path.{ap, _∙_}
 use Rattle.pen.specs.Pen.{ended}
-use Rattle.document.specs.Begun.{begun-after}
 use borrow.Author.Needs.{needs}
 use Rattle.document.proofs.write_one.Statement.{statement}
 use Rattle.document.proofs.write_one.Tie as tie
@@ -15,7 +15,7 @@ put-one-requires c κs = search needs
 
 -- src/lib.rt:378:5
 finish-requires : tie.Need-finish-requires
-finish-requires c κs = begun-after (c .before .before .before .before .before .before .before .before .before .pre) _ _ (c .before .before .before .before .put-one .ensures .drawn) .ready .fit .under
+finish-requires c κs = calm-after (c .before .before .before .before .before .before .before .before .before .pre) _ _ _ (c .before .before .before .before .put-one .ensures .drawn) .ready .fit .under
 
 -- src/lib.rt:364:1
 same-length : tie.Need-same-length
