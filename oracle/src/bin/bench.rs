@@ -1,4 +1,4 @@
-//! The archive's speed beside the Rust's: `bench [SECONDS]`, from one driver, on the same decks. Each figure is the best of many runs, and the
+//! The archive's speed beside the Rust's: `bench [SECONDS [WORD]]`, from one driver, on the same decks, or on those whose name has WORD. Each figure is the best of many runs, and the
 //! runs of the two take turns. The ratios are the archive's time by the Rust's.
 
 use oracle::archive::{self, Entry};
@@ -21,7 +21,7 @@ fn main() {
     let seconds = match words.first().map(|word| word.parse::<f64>()) {
         None => 1.0,
         Some(Ok(seconds)) => seconds,
-        Some(Err(_)) => fail("usage: bench [SECONDS]"),
+        Some(Err(_)) => fail("usage: bench [SECONDS [WORD]]"),
     };
     if !archive::has(&ALL) {
         fail("No archive is linked that has emit_roundtrip_all_with.");
@@ -39,8 +39,9 @@ fn main() {
         "(b) whole",
         "judging"
     );
-    for subject in subjects() {
-        measure(&subject, Duration::from_secs_f64(seconds));
+    let wanted = words.get(1).map_or("", String::as_str);
+    for subject in subjects().iter().filter(|subject| subject.name.contains(wanted)) {
+        measure(subject, Duration::from_secs_f64(seconds));
     }
     println!("times in microseconds; (a) the archive's call by the Rust's emission of a tree that is built already;");
     println!("(b) the same by the Rust's building of the tree and emission; judging: the archive's share of its own call");
