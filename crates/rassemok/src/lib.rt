@@ -1,30 +1,24 @@
 // The public calls that write: one document, all documents, under a null style or under settings. Nothing is asked of the caller.
+use answers::Answer;
+use answers::admit;
+use answers::clear;
+use answers::refuse;
 use definition::Cursor;
 use definition::NullStyle;
 use definition::Settings;
 use judge::Verdict;
 use pen::Writer;
 ghost use mathlib.Core.Path.{_≡_};
-ghost use lib.ListN.{length, replicate};
+ghost use mathlib.Core.List.{[]};
 ghost use mathlib.Core.Bool.{true, false};
 ghost use Rattle.definition.specs.Settings.{nullAs};
 ghost use Rattle.definition.specs.Calls.{outcome, emitRoundtrip, emitRoundtripWith, emitRoundtripAllWith, emitRoundtripDump};
 ghost use Rattle.pen.specs.Pen.{pen};
 ghost use Rattle.agree.specs.Accepted.{Accepted};
 ghost use Rattle.told.specs.Outcome.{Settled, Small, lent};
-ghost use Rattle.rassemok.specs.Answer.{outcomeOf, refusal, written, Tells};
+ghost use Rattle.answers.specs.Answer.{outcomeOf};
+ghost use Rattle.rassemok.specs.Written.{written, Tells};
 ghost use Rattle.rassemok.specs.Options.{nullStyleOf, isOn, settingsOf};
-ghost use Rattle.rassemok.specs.Limits.{limitOf};
-
-// Number and place of the refusal, 0 and 0 of an answer; the length of what was written. `count` and `modified` are of other calls.
-#[repr(C)]
-pub struct Answer {
-    pub number: usize,
-    pub place: usize,
-    pub length: usize,
-    pub count: usize,
-    pub modified: bool,
-}
 
 // Settings, as numbers.
 #[repr(C)]
@@ -36,50 +30,6 @@ pub struct Options {
     pub indentless: usize,
     pub single_quotes: usize,
     pub width: usize,
-}
-
-fn refuse(number: usize, place: usize) -> Answer
-    ensures { λ r. ⌜ r ≡ refusal number place ⌝ }
-{
-    Answer {
-        number,
-        place,
-        length: 0,
-        count: 0,
-        modified: false,
-    }
-}
-
-// Refusal 1 or 2, or 0.
-fn over_limits(deck: &[u8], pool: &[u8], room: usize, settings: Settings) -> usize
-    ensures { λ r. ⌜ r ≡ limitOf settings (length (now (deck .entry))) (length (now (pool .entry))) room ⌝ }
-{
-    if settings.indent > 16 {
-        return 1;
-    }
-    if settings.width > 65535 {
-        return 1;
-    }
-    if deck.len() > 65536 {
-        return 2;
-    }
-    if pool.len() > 65536 {
-        return 2;
-    }
-    if room > 1048576 {
-        return 2;
-    }
-    0
-}
-
-fn clear(out: &mut [u8])
-    ensures { λ _. ⌜ now (out .exit) ≡ replicate (length (now (out .entry))) 0 ⌝ }
-{
-    let mut i = 0;
-    while i < out.len() {
-        out[i] = 0;
-        i += 1;
-    }
 }
 
 // The answer at the end of a run. Where the output was too short it is refusal 10, and the output is all zero.
@@ -102,7 +52,7 @@ fn settle(w: Writer, out: &mut [u8]) -> Answer
 
 fn emit_one(deck: &[u8], pool: &[u8], out: &mut [u8], settings: Settings) -> Answer
     requires { ⌜ Settled settings × Small (lent (now deck) (now pool) (now out)) × Accepted (now deck) (now pool) 1 ⌝ }
-    ensures { λ r. ⌜ outcomeOf r (now (out .exit)) ≡ written settings false (lent (now (deck .entry)) (now (pool .entry)) (now (out .entry))) ⌝ }
+    ensures { λ r. ⌜ outcomeOf r (now (out .exit)) [] ≡ written settings false (lent (now (deck .entry)) (now (pool .entry)) (now (out .entry))) ⌝ }
 {
     let w = document::fresh_writer(settings);
     let c = Cursor { at: 0 };
@@ -118,7 +68,7 @@ fn emit_all(
     documents: usize,
 ) -> Answer
     requires { ⌜ Settled settings × Small (lent (now deck) (now pool) (now out)) × Accepted (now deck) (now pool) documents ⌝ }
-    ensures { λ r. ⌜ outcomeOf r (now (out .exit)) ≡ written settings true (lent (now (deck .entry)) (now (pool .entry)) (now (out .entry))) ⌝ }
+    ensures { λ r. ⌜ outcomeOf r (now (out .exit)) [] ≡ written settings true (lent (now (deck .entry)) (now (pool .entry)) (now (out .entry))) ⌝ }
 {
     let w = document::fresh_writer(settings);
     let v = document::write_all(w, deck, pool, out, settings);
@@ -135,7 +85,7 @@ fn emit(
     documents: usize,
 ) -> Answer
     requires { ⌜ Settled settings × Small (lent (now deck) (now pool) (now out)) × Accepted (now deck) (now pool) documents ⌝ }
-    ensures { λ r. ⌜ outcomeOf r (now (out .exit)) ≡ written settings all (lent (now (deck .entry)) (now (pool .entry)) (now (out .entry))) ⌝ }
+    ensures { λ r. ⌜ outcomeOf r (now (out .exit)) [] ≡ written settings all (lent (now (deck .entry)) (now (pool .entry)) (now (out .entry))) ⌝ }
 {
     if all {
         return emit_all(deck, pool, out, settings, documents);
@@ -148,13 +98,9 @@ fn emit(
 
 // The limits, the judge, the emission.
 fn write(deck: &[u8], pool: &[u8], out: &mut [u8], settings: Settings, all: bool) -> Answer
-    ensures { λ r. ⌜ outcomeOf r (now (out .exit)) ≡ written settings all (lent (now (deck .entry)) (now (pool .entry)) (now (out .entry))) ⌝ }
+    ensures { λ r. ⌜ outcomeOf r (now (out .exit)) [] ≡ written settings all (lent (now (deck .entry)) (now (pool .entry)) (now (out .entry))) ⌝ }
 {
-    let n = over_limits(deck, pool, out.len(), settings);
-    if n != 0 {
-        return refuse(n, 0);
-    }
-    let verdict = judge::judge(deck, pool);
+    let verdict = admit(deck, pool, out.len(), 0, settings);
     match verdict {
         Verdict::Good { documents } => emit(deck, pool, out, settings, all, documents),
         Verdict::Refused { number, place } => refuse(number, place),
@@ -177,7 +123,7 @@ fn null_as(null_style: NullStyle) -> Settings
 }
 
 pub fn emit_roundtrip(deck: &[u8], pool: &[u8], out: &mut [u8]) -> Answer
-    ensures { λ r. ⌜ outcomeOf r (now (out .exit)) ≡ outcome emitRoundtrip (lent (now (deck .entry)) (now (pool .entry)) (now (out .entry))) ⌝ }
+    ensures { λ r. ⌜ outcomeOf r (now (out .exit)) [] ≡ outcome emitRoundtrip (lent (now (deck .entry)) (now (pool .entry)) (now (out .entry))) ⌝ }
 {
     let settings = null_as(NullStyle::Null);
     write(deck, pool, out, settings, false)
@@ -189,7 +135,7 @@ pub fn emit_roundtrip_with(
     out: &mut [u8],
     null_style: NullStyle,
 ) -> Answer
-    ensures { λ r. ⌜ outcomeOf r (now (out .exit)) ≡ outcome (emitRoundtripWith «null_style») (lent (now (deck .entry)) (now (pool .entry)) (now (out .entry))) ⌝ }
+    ensures { λ r. ⌜ outcomeOf r (now (out .exit)) [] ≡ outcome (emitRoundtripWith «null_style») (lent (now (deck .entry)) (now (pool .entry)) (now (out .entry))) ⌝ }
 {
     let settings = null_as(null_style);
     write(deck, pool, out, settings, false)
@@ -201,14 +147,14 @@ pub fn emit_roundtrip_all_with(
     out: &mut [u8],
     null_style: NullStyle,
 ) -> Answer
-    ensures { λ r. ⌜ outcomeOf r (now (out .exit)) ≡ outcome (emitRoundtripAllWith «null_style») (lent (now (deck .entry)) (now (pool .entry)) (now (out .entry))) ⌝ }
+    ensures { λ r. ⌜ outcomeOf r (now (out .exit)) [] ≡ outcome (emitRoundtripAllWith «null_style») (lent (now (deck .entry)) (now (pool .entry)) (now (out .entry))) ⌝ }
 {
     let settings = null_as(null_style);
     write(deck, pool, out, settings, true)
 }
 
 pub fn emit_roundtrip_dump(deck: &[u8], pool: &[u8], out: &mut [u8], settings: Settings) -> Answer
-    ensures { λ r. ⌜ outcomeOf r (now (out .exit)) ≡ outcome (emitRoundtripDump settings) (lent (now (deck .entry)) (now (pool .entry)) (now (out .entry))) ⌝ }
+    ensures { λ r. ⌜ outcomeOf r (now (out .exit)) [] ≡ outcome (emitRoundtripDump settings) (lent (now (deck .entry)) (now (pool .entry)) (now (out .entry))) ⌝ }
 {
     write(deck, pool, out, settings, false)
 }
@@ -249,7 +195,7 @@ fn settings_of(options: Options) -> Settings
 // The calls as C and Rust call them.
 #[no_mangle]
 pub extern "C" fn rassemok_emit_roundtrip(deck: &[u8], pool: &[u8], out: &mut [u8]) -> Answer
-    ensures { λ r. ⌜ outcomeOf r (now (out .exit)) ≡ outcome emitRoundtrip (lent (now (deck .entry)) (now (pool .entry)) (now (out .entry))) ⌝ }
+    ensures { λ r. ⌜ outcomeOf r (now (out .exit)) [] ≡ outcome emitRoundtrip (lent (now (deck .entry)) (now (pool .entry)) (now (out .entry))) ⌝ }
 {
     emit_roundtrip(deck, pool, out)
 }
@@ -261,7 +207,7 @@ pub extern "C" fn rassemok_emit_roundtrip_with(
     out: &mut [u8],
     null_style: usize,
 ) -> Answer
-    ensures { λ r. ⌜ outcomeOf r (now (out .exit)) ≡ outcome (emitRoundtripWith (nullStyleOf «null_style»)) (lent (now (deck .entry)) (now (pool .entry)) (now (out .entry))) ⌝ }
+    ensures { λ r. ⌜ outcomeOf r (now (out .exit)) [] ≡ outcome (emitRoundtripWith (nullStyleOf «null_style»)) (lent (now (deck .entry)) (now (pool .entry)) (now (out .entry))) ⌝ }
 {
     let style = null_style_of(null_style);
     emit_roundtrip_with(deck, pool, out, style)
@@ -274,7 +220,7 @@ pub extern "C" fn rassemok_emit_roundtrip_all_with(
     out: &mut [u8],
     null_style: usize,
 ) -> Answer
-    ensures { λ r. ⌜ outcomeOf r (now (out .exit)) ≡ outcome (emitRoundtripAllWith (nullStyleOf «null_style»)) (lent (now (deck .entry)) (now (pool .entry)) (now (out .entry))) ⌝ }
+    ensures { λ r. ⌜ outcomeOf r (now (out .exit)) [] ≡ outcome (emitRoundtripAllWith (nullStyleOf «null_style»)) (lent (now (deck .entry)) (now (pool .entry)) (now (out .entry))) ⌝ }
 {
     let style = null_style_of(null_style);
     emit_roundtrip_all_with(deck, pool, out, style)
@@ -287,7 +233,7 @@ pub extern "C" fn rassemok_emit_roundtrip_dump(
     out: &mut [u8],
     options: Options,
 ) -> Answer
-    ensures { λ r. ⌜ outcomeOf r (now (out .exit)) ≡ outcome (emitRoundtripDump (settingsOf options)) (lent (now (deck .entry)) (now (pool .entry)) (now (out .entry))) ⌝ }
+    ensures { λ r. ⌜ outcomeOf r (now (out .exit)) [] ≡ outcome (emitRoundtripDump (settingsOf options)) (lent (now (deck .entry)) (now (pool .entry)) (now (out .entry))) ⌝ }
 {
     let settings = settings_of(options);
     emit_roundtrip_dump(deck, pool, out, settings)

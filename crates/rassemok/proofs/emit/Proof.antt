@@ -8,7 +8,7 @@ use Rattle.rassemok.proofs.emit.Reads as reads
 use Rattle.rassemok.proofs.emit.Lts as lts
 use Rattle.rassemok.proofs.emit_all.Reads as emit-all-reads
 use Rattle.rassemok.proofs.emit_one.Reads as emit-one-reads
-use Rattle.rassemok.proofs.refuse.Reads as refuse-reads
+use Rattle.answers.proofs.refuse.Reads as refuse-reads
 
 -- src/lib.rt:195:9
 emit-all-requires : tie.Need-emit-all-requires

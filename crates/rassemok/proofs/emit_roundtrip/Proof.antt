@@ -1,6 +1,6 @@
 use Rattle.definition.specs.Settings.{plainSettings}
 use Rattle.definition.specs.Calls.{outcome}
-use Rattle.rassemok.specs.Answer.{written}
+use Rattle.rassemok.specs.Written.{written}
 use borrow.Author.Needs.{needs}
 use Rattle.rassemok.proofs.emit_roundtrip.Statement.{statement}
 use Rattle.rassemok.proofs.emit_roundtrip.Tie as tie

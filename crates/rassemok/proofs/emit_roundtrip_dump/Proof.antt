@@ -1,5 +1,5 @@
 use Rattle.definition.specs.Calls.{outcome}
-use Rattle.rassemok.specs.Answer.{written}
+use Rattle.rassemok.specs.Written.{written}
 use borrow.Author.Needs.{needs}
 use Rattle.rassemok.proofs.emit_roundtrip_dump.Statement.{statement}
 use Rattle.rassemok.proofs.emit_roundtrip_dump.Tie as tie

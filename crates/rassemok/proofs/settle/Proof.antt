@@ -6,8 +6,8 @@ use Rattle.rassemok.proofs.settle.Statement.{statement}
 use Rattle.rassemok.proofs.settle.Tie as tie
 use Rattle.rassemok.proofs.settle.Reads as reads
 use Rattle.rassemok.proofs.settle.Lts as lts
-use Rattle.rassemok.proofs.clear.Reads as clear-reads
-use Rattle.rassemok.proofs.refuse.Reads as refuse-reads
+use Rattle.answers.proofs.clear.Reads as clear-reads
+use Rattle.answers.proofs.refuse.Reads as refuse-reads
 
 -- src/lib.rt:145:9
 clear-requires : tie.Need-clear-requires

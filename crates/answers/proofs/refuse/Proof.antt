@@ -1,0 +1,13 @@
+use Rattle.answers.specs.Answer.{refusal}
+use Rattle.answers.proofs.refuse.Statement.{statement}
+use Rattle.answers.proofs.refuse.Tie as tie
+use Rattle.answers.proofs.refuse.Reads as reads
+use Rattle.answers.proofs.refuse.Lts as lts
+
+-- src/lib.rt:95:1
+returns : tie.Need-returns
+unfolding refusal
+returns c = cc
+
+pub refuse-spec : {M : Type 1} → statement M
+refuse-spec = tie.close (tie.spec returns)
