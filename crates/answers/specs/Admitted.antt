@@ -1,14 +1,15 @@
 -- What the limits and the judge say of a call, whatever call it is.
-use mathlib.Core.Path.{_≡_, refl, sym, _∙_}
+use mathlib.Core.Path.{_≡_, refl, sym, subst, _∙_}
 use Prim.Native.Nat.{ℕ}
 use native.Mathlib.Omega.{arith}
-use mathlib.Core.List.{List}
+use mathlib.Core.Bool.{Bool, true, false}
+use lib.Dec.{eqb}
 use lib.ListN.{length}
-use Rattle.definition.specs.Base.{Bytes}
+use borrow.Author.Tests.{eqb-true, eqb-false}
+use Rattle.definition.specs.Base.{Bytes, if_then_else_}
 use Rattle.definition.specs.Deck.{readDeck}
 use Rattle.definition.specs.Calls.{Lent, Outcome, refused}
 use Rattle.definition.specs.declared.Settings.{Settings}
-use Rattle.definition.specs.declared.Change.{Change}
 use Rattle.judge.specs.declared.Verdict.{Verdict}
 use Rattle.judge.specs.declared.Verdict.the-variants as verdict
 use Rattle.judge.specs.Judge.{verdictOf}
@@ -30,12 +31,16 @@ unfoldable pub Says : Settings → Lent → Verdict → Type 0
 Says s x (verdict.Good n) = Admits s x n
 Says s x (verdict.Refused n p) = Refuses s x n p
 
--- of any output and list that are so long
-pub record Admitted (s : Settings) (deck pool : Bytes) (room entries : ℕ) (v : Verdict) : Type 0 where
-  pub says : (out : Bytes) (list : List Change) → length out ≡ room → length list ≡ entries → Says s (record { deck = deck; pool = pool; output = out; list = list }) v
+-- refusals 1 to 7, or how many trees
+unfoldable pub admitOf : Settings → Bytes → Bytes → ℕ → ℕ → Verdict
+admitOf s deck pool room entries =
+    let n = limitOf s (length deck) (length pool) room entries in
+    let read = verdictOf (readDeck deck pool) in
+    if eqb n 0 then read else verdict.Refused n 0
 
 module _ (s : Settings) (x : Lent) where
-  over-says : (n : ℕ) → Limited s x n → (n ≡ 0 → ⊥) → Refuses s x n 0
+  over-says : (n : ℕ) → Limited s x n → (n ≡ 0 → ⊥) → Says s x (verdict.Refused n 0)
+  unfolding Says
   over-says n (over-1 z) h = record { refuses = λ call j. refused-1 j x z }
   over-says n (over-2 z l) h = record { refuses = λ call j. refused-2 j x z l }
   over-says n (within z l) h = absurd (h refl)
@@ -48,10 +53,14 @@ module _ (s : Settings) (x : Lent) where
   read-says n (within z l) h (verdict.Refused k p) e =
       record { refuses = λ call j. refused-read j x k p z l (agreed.refused (x .deck) (x .pool) k p (sym e)) }
 
-module _ (s : Settings) (deck pool : Bytes) (room entries n : ℕ) (e : n ≡ limitOf s (length deck) (length pool) room entries) where
-  pub over-admitted : (n ≡ 0 → ⊥) → Admitted s deck pool room entries (verdict.Refused n 0)
-  unfolding Says
-  over-admitted h = record { says = λ out list f g. let x : Lent = record { deck = deck; pool = pool; output = out; list = list } in over-says s x n (rw (e, ← f, ← g) (limited s x)) h }
+  pub admit-says : Says s x (admitOf s (x .deck) (x .pool) (length (x .output)) (length (x .list)))
+  unfolding admitOf
+  admit-says = go _ (limited s x) (eqb (limitOf s (length (x .deck)) (length (x .pool)) (length (x .output)) (length (x .list))) 0) refl
+    where
+      go : (n : ℕ) → Limited s x n → (b : Bool) → eqb n 0 ≡ b → Says s x (if b then verdictOf (readDeck (x .deck) (x .pool)) else verdict.Refused n 0)
+      go n l true e = read-says n l (eqb-true _ _ e) _ refl
+      go n l false e = over-says n l (eqb-false _ _ e)
 
-  pub read-admitted : n ≡ 0 → (v : Verdict) → v ≡ verdictOf (readDeck deck pool) → Admitted s deck pool room entries v
-  read-admitted h v q = record { says = λ out list f g. let x : Lent = record { deck = deck; pool = pool; output = out; list = list } in read-says s x n (rw (e, ← f, ← g) (limited s x)) h v q }
+  -- of a verdict that is this one
+  pub said : (v w : Verdict) → v ≡ admitOf s (x .deck) (x .pool) (length (x .output)) (length (x .list)) → v ≡ w → Says s x w
+  said v w e f = subst (Says s x) (sym e ∙ f) admit-says

@@ -5,7 +5,7 @@ ghost use mathlib.Core.Path.{_≡_};
 ghost use lib.ListN.{length, replicate};
 ghost use Rattle.answers.specs.Answer.{refusal};
 ghost use Rattle.answers.specs.Limits.{limitOf};
-ghost use Rattle.answers.specs.Admitted.{Admitted};
+ghost use Rattle.answers.specs.Admitted.{admitOf};
 
 // Number and place of the refusal, 0 and 0 of an answer; how many bytes were written; how many entries were stored; the yes or no of
 // `local_modified`.
@@ -67,7 +67,7 @@ fn over_limits(deck: &[u8], pool: &[u8], room: usize, entries: usize, settings: 
 
 // Refusals 1 to 7, or how many documents the deck has.
 pub fn admit(deck: &[u8], pool: &[u8], room: usize, entries: usize, settings: Settings) -> Verdict
-    ensures { λ r. ⌜ Admitted settings (now (deck .entry)) (now (pool .entry)) room entries r ⌝ }
+    ensures { λ r. ⌜ r ≡ admitOf settings (now (deck .entry)) (now (pool .entry)) room entries ⌝ }
 {
     let number = over_limits(deck, pool, room, entries, settings);
     if number != 0 {

@@ -1,5 +1,5 @@
-use mathlib.Core.Path.{refl, subst}
-use Rattle.answers.specs.Admitted.{Says}
+use Rattle.answers.specs.Admitted.{Says, said}
+use Rattle.told.specs.Outcome.{lent}
 use Rattle.rassemok.proofs.Laws.{refused-so}
 use borrow.Author.Needs.{needs}
 use Rattle.rassemok.proofs.write.Statement.{statement}
@@ -13,7 +13,7 @@ enum-known-verdict c = search needs
 
 emit-requires : tie.Need-emit-requires
 unfolding Says
-emit-requires c κs = let a = subst (Says _ _) (c .before .before .verdict .given .1) (c .before .before .before .before .admit .ensures .says _ _ refl refl) in (a .settled, a .small, a .accepted)
+emit-requires c κs = let a = said _ (lent (c .before .before .before .before .before .before .before .before .args .deck .now) (c .before .before .before .before .before .before .before .before .args .pool .now) (c .before .before .before .before .before .before .before .before .args .out .now)) _ _ (c .before .before .before .before .admit .ensures) (c .before .before .verdict .given .1) in (a .settled, a .small, a .accepted)
 
 enum-known-verdict-2 : tie.Need-enum-known-verdict-2
 enum-known-verdict-2 c = search needs
@@ -29,7 +29,7 @@ returns c = c .before .before .emit .ensures
 
 returns-2 : tie.Need-returns-2
 unfolding Says
-returns-2 c = refused-so _ _ _ _ _ _ _ _ (subst (Says _ _) (c .before .before .verdict2 .given .1) (c .before .before .before .before .admit .ensures .says _ _ refl refl)) (c .refuse .ensures)
+returns-2 c = refused-so _ _ _ _ _ _ _ _ (said _ (lent (c .before .before .before .before .before .before .before .before .args .deck .now) (c .before .before .before .before .before .before .before .before .args .pool .now) (c .before .before .before .before .before .before .before .before .args .out .now)) _ _ (c .before .before .before .before .admit .ensures) (c .before .before .verdict2 .given .1)) (c .refuse .ensures)
 
 pub write-spec : {M : Type 1} → statement M
 write-spec = tie.close (tie.spec admit-requires enum-known-verdict emit-requires enum-known-verdict-2 refuse-requires same-length returns returns-2)
