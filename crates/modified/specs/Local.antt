@@ -1,6 +1,7 @@
 -- The changed test over the nodes that stand one after another in a deck. An included item or value is not looked into: it is a file of its
 -- own. An included key is looked into.
-use mathlib.Core.Path.{_≡_, refl, sym, ap, _∙_}
+use mathlib.Core.Path.{_≡_, refl, ap, _∙_}
+use native.Mathlib.Omega.{arith}
 use Prim.Native.Nat.{ℕ, zero, suc, _<_, _≤_}
 use mathlib.Core.Bool.{Bool, true, false, not, _&&_, _||_}
 use lib.ListN.{length}
@@ -15,7 +16,7 @@ use Rattle.definition.specs.declared.Record.the-variants as is
 use Rattle.deck.specs.Kids.{twice, kidsOf}
 use Rattle.node.specs.Head.{headAt}
 use Rattle.node.specs.Total.{broughtOf, itemsFrom, pairsFrom, treeAt}
-use Rattle.node.specs.Fuel.{nexts, tree-next}
+use Rattle.node.specs.Fuel.{nexts, head-at-onward, tree-next}
 use Rattle.spot.specs.declared.Body.{Body}
 use Rattle.spot.specs.declared.Body.the-variants.{Null, Scalar, Alias, Sequence, Mapping}
 use Rattle.spot.specs.declared.Spot.{Spot}
@@ -56,6 +57,23 @@ kids-is (is.Scalar w) = refl
 kids-is (is.Alias t) = refl
 kids-is (is.Sequence g) = refl
 kids-is (is.Mapping g) = refl
+
+-- they stand after the node, within the deck
+pub record After (deck : Bytes) (c : Cursor) (n : ℕ) (e : Cursor) : Type 0 where
+  pub onward : c .at ≤ e .at
+  pub within : e .at ≤ length deck
+  pub deeper : 0 < n → c .at < e .at
+
+pub kids-after : (deck : Bytes) (c : Cursor) → c .at ≤ length deck → After deck c (kidsIn (spotAt deck c .body)) (spotAt deck c .next)
+unfolding spotAt spotOf
+kids-after deck c k =
+    let o = head-at-onward deck c k in
+    let e = kids-is (headAt deck c .own) in
+    record {
+      onward = omega (arith, o .ahead, o .beyond);
+      within = o .within;
+      deeper = λ h. let s = o .kids (λ z. absurd (omega (arith, e, h, z))) in omega (arith, o .ahead, s);
+    }
 
 -- ---- the changed test
 
@@ -114,9 +132,7 @@ module _ (deck pool : Bytes) where
 pub record Starts (deck : Bytes) (c : Cursor) (key : Bool) (s : Start) : Type 0 where
   pub told : (pool : Bytes) → seen key (treeAt deck pool c .value) ≡ (s .modified || someSeen deck pool (s .pairs) (s .pairs) (s .kids) (s .next))
   pub ends : (pool : Bytes) → s .modified ≡ false → treeAt deck pool c .next ≡ nexts (λ d. treeAt deck pool d .next) (s .kids) (s .next)
-  pub onward : c .at ≤ s .next .at
-  pub within : s .next .at ≤ length deck
-  pub deeper : 0 < s .kids → c .at < s .next .at
+  pub after : After deck c (s .kids) (s .next)
 
 -- the test of a node; where it ends is promised of a node that did not change
 pub record Looks (deck : Bytes) (c : Cursor) (key : Bool) (r : Looked) : Type 0 where

@@ -14,7 +14,7 @@ ghost use Rattle.spot.specs.Good.{countIn};
 ghost use Rattle.spot.specs.Spot.{spotAt};
 ghost use Rattle.choices.specs.Choices.{includedIn};
 ghost use Rattle.modified.specs.Local.{pairsIn, kidsIn, turned, Starts, Looks, Changed};
-ghost use Rattle.modified.specs.Files.{Files};
+ghost use Rattle.modified.specs.Files.{fileNamed, IfChanged, Files};
 
 // A node's own answer, and the children that are left to look at: pairs or items, how many nodes, and where the first one stands.
 struct Start {
@@ -148,3 +148,47 @@ pub fn local_modified(deck: &[u8], c: Cursor) -> bool
     r.modified
 }
 
+
+// The file of an include that may be absent.
+fn file_named(origin: Origin) -> File
+    ensures { λ r. ⌜ r ≡ fileNamed origin ⌝ }
+{
+    if is_included(origin) {
+        let include = origin.include;
+        return include.file;
+    }
+    File::Absent
+}
+
+// A file if the node at a cursor changed.
+fn if_changed(deck: &[u8], c: Cursor, file: File) -> File
+    requires { ⌜ (c .at ≤ length (now deck)) × (length (now deck) ≤ 65536) ⌝ }
+    ensures { λ r. ⌜ IfChanged (now (deck .entry)) c file r ⌝ }
+{
+    if local_modified(deck, c) {
+        return file;
+    }
+    File::Absent
+}
+
+// The file of the node at a cursor, given the node's include.
+fn file_of(deck: &[u8], c: Cursor, origin: Origin) -> File
+    requires { ⌜ (c .at ≤ length (now deck)) × (length (now deck) ≤ 65536) × (origin ≡ spotAt (now deck) c .lead .origin) ⌝ }
+    ensures { λ r. ⌜ Files (now (deck .entry)) c r ⌝ }
+{
+    let file = file_named(origin);
+    match file {
+        File::Absent => File::Absent,
+        File::Id(_) => if_changed(deck, c, file),
+    }
+}
+
+// The id of the file that the node at a cursor is, if it is one and changed.
+pub fn file_at(deck: &[u8], c: Cursor) -> File
+    requires { ⌜ (c .at ≤ length (now deck)) × (length (now deck) ≤ 65536) ⌝ }
+    ensures { λ r. ⌜ Files (now (deck .entry)) c r ⌝ }
+{
+    let x = spot::spot_at(deck, c);
+    let lead = x.lead;
+    file_of(deck, c, lead.origin)
+}
