@@ -1,3 +1,4 @@
+-- `modified::look` meets its contract.
 mod Base
 mod Look
 use Prim.Native.Nat.{ℕ, _<_}

@@ -1,6 +1,7 @@
 -- `modified::look`: the loop's invariant and the answers to its needs.
 use native.Mathlib.Omega.{arith}
-use Rattle.modified.proofs.Laws.{Left, all-left, one-less, look-found, look-done, child-less}
+use Rattle.modified.proofs.Going.{going-start, child-less}
+use Rattle.modified.proofs.Laws.{Left, one-less, look-found, look-done}
 use borrow.Author.Needs.{needs}
 use Prim.Native.Nat.{ℕ, _<_}
 use Rattle.modified.proofs.look.Reads as look
@@ -26,7 +27,7 @@ look-loop-holds t c = search needs
 
 -- src/lib.rt:128:13
 pub look-look-requires : (t : ℕ) → look-lts.Need-look-requires (look-claims t) (look-at t) look.Post look-Inv-loop look-μ-loop
-look-look-requires t c κs = let s = child-less (c .before .before .before .before .before .args .deck .now) (c .before .before .before .before .before .args .c) (c .before .before .before .before .before .args .key) _ (c .before .before .before .begin .ensures) (c .before .loop .key-here) (c .before .loop .left) (c .before .loop .here) (c .before .loop .inv) ((c .before .before .before .before .before .pre) .1 .0) (c .loop-test .taken) in let q = c .before .loop .inv .within in search needs
+look-look-requires t c κs = let s = child-less (c .before .before .before .before .before .args .deck .now) (c .before .before .before .before .before .args .c) _ _ (c .before .loop .left) (c .before .loop .here) (c .before .before .before .begin .ensures .after) (c .before .loop .inv .going) (c .loop-test .taken) in let q = c .before .loop .inv .going .within in search needs
 
 -- src/lib.rt:130:13
 pub look-returns : (t : ℕ) → look-lts.Need-returns (look-claims t) (look-at t) look.Post look-Inv-loop look-μ-loop
