@@ -117,6 +117,9 @@ pub record Sum (deck : Bytes) (count left : ℕ) (here : Cursor) : Type 0 where
   pub few : count ≤ here .at
   pub within : here .at ≤ length deck
 
+pub sum-start : (deck : Bytes) → Sum deck 0 (length deck) (record { at = 0 })
+sum-start deck = record { told = λ pool. omega arith; few = omega arith; within = omega arith }
+
 module _ (deck : Bytes) (count left : ℕ) (here : Cursor) (i : Sum deck count left here) where
   pub sum-more : {r : Counted} → 0 < left → here .at < length deck → Counts deck here r → Sum deck (count + r .count) (left - 1) (r .next)
   sum-more {r} h l k =
