@@ -4,10 +4,10 @@ use mathlib.Core.Path.{_≡_, refl, sym, ap, _∙_}
 use Prim.Native.Nat.{ℕ, zero, suc, _+_, _-_, _<_, _≤_}
 use native.Mathlib.Omega.{arith}
 use mathlib.Core.Bool.{Bool, true, false}
-use mathlib.Core.List.{List, []}
+use mathlib.Core.List.{[]}
 use lib.ListN.{length, length-append}
 use Rattle.definition.specs.Base.{Bytes, if_then_else_}
-use Rattle.definition.specs.Change.{Written, boundaries, changed, localModified}
+use Rattle.definition.specs.Change.{boundaries, changed, localModified}
 use Rattle.definition.specs.declared.Cursor.{Cursor}
 use Rattle.definition.specs.declared.File.{File}
 use Rattle.definition.specs.declared.File.the-variants.{Absent, Id}
@@ -58,9 +58,9 @@ module _ (deck : Bytes) (c : Cursor) (k : c .at ≤ length deck) (b : length dec
       record {
         told = λ pool.
             rw (p, q, at) (
-              ap length (changed-at deck pool c k)
-              ∙ length-append (entry (fileAt deck pool c) (treeAt deck pool c .value)) _
-              ∙ ap (λ (a : ℕ). a + length (changedFrom deck pool (kidsIn (spotAt deck c .body)) (spotAt deck c .next))) (entry-length (fileAt deck pool c) _ ∙ ap tally (sym (i .told pool))));
+            ap length (changed-at deck pool c k)
+            ∙ length-append (entry (fileAt deck pool c) (treeAt deck pool c .value)) _
+            ∙ ap (λ (a : ℕ). a + length (changedFrom deck pool (kidsIn (spotAt deck c .body)) (spotAt deck c .next))) (entry-length (fileAt deck pool c) _ ∙ ap tally (sym (i .told pool))));
         ends = λ pool. rw (q, at) (end-is deck pool c k);
         after = rw (q, at) (kids-after deck c k);
         few = rw (p, at) own-few;

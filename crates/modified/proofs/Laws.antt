@@ -11,18 +11,18 @@ use Rattle.definition.specs.Deck.{marked}
 use Rattle.definition.specs.Change.{localModified}
 use Rattle.definition.specs.declared.Cursor.{Cursor}
 use Rattle.definition.specs.declared.File.{File}
-use Rattle.definition.specs.declared.File.the-variants.{Absent, Id}
+use Rattle.definition.specs.declared.File.the-variants.{Absent}
 use Rattle.deck.specs.Kids.{twice}
 use Rattle.node.specs.declared.Origin.{Origin}
 use Rattle.node.specs.Ends.{Ends}
 use Rattle.node.specs.Fuel.{nexts}
-use Rattle.node.specs.Total.{keptOf, treeAt}
+use Rattle.node.specs.Total.{treeAt}
 use Rattle.spot.specs.declared.Spot.{Spot}
 use Rattle.spot.specs.Spot.{spotAt, nodeIn, tree-value}
 use Rattle.choices.specs.Choices.{includedIn, included-is}
 use Rattle.modified.specs.declared.Start.{Start}
 use Rattle.modified.specs.declared.Looked.{Looked}
-use Rattle.modified.specs.Local.{kidsIn, pairsIn, kids-after, seen, turned, someSeen, local-is, end-is, After, Starts, Looks}
+use Rattle.modified.specs.Local.{kidsIn, pairsIn, kids-after, seen, turned, someSeen, local-is, end-is, Starts, Looks}
 use Rattle.modified.proofs.Going.{Going, going-on, going-end}
 use Rattle.modified.specs.Files.{fileNamed, file-is, IfChanged, Files}
 

@@ -1,5 +1,5 @@
 -- The changed files of the nodes that stand one after another in a deck: each node's own, and then those of its children.
-use mathlib.Core.Path.{_≡_, refl, sym, ap, _∙_}
+use mathlib.Core.Path.{_≡_, refl, ap, _∙_}
 use Prim.Native.Nat.{ℕ, zero, suc, _+_, _<_, _≤_}
 use mathlib.Core.Bool.{Bool, true, false, not}
 use lib.Dec.{eqb}
@@ -127,8 +127,8 @@ module _ (deck pool : Bytes) where
       let d = treeAt deck pool c .next in
       changed-append (boundaries (treeAt deck pool c .value)) _
       ∙ ap (λ (ws : List Written). changed (boundaries (treeAt deck pool c .value)) ++ ws)
-        (changed-append (boundaries (treeAt deck pool d .value)) _
-        ∙ ap (λ (ws : List Written). changed (boundaries (treeAt deck pool d .value)) ++ ws) (changed-pairs n (treeAt deck pool d .next)))
+      (changed-append (boundaries (treeAt deck pool d .value)) _
+      ∙ ap (λ (ws : List Written). changed (boundaries (treeAt deck pool d .value)) ++ ws) (changed-pairs n (treeAt deck pool d .next)))
 
   changed-in : (b : Body) (c : Cursor) → changed (boundariesIn (kindOf deck pool b c)) ≡ changedFrom (kidsIn b) c
   unfolding changed boundariesIn kindOf changedFrom kidsIn

@@ -161,7 +161,6 @@ pub fn local_modified(deck: &[u8], c: Cursor) -> bool
     r.modified
 }
 
-
 // The file of an include that may be absent.
 fn file_named(origin: Origin) -> File
     ensures { λ r. ⌜ r ≡ fileNamed origin ⌝ }
@@ -238,12 +237,12 @@ pub fn count_changed(deck: &[u8], c: Cursor) -> Counted
     let own = count_own(deck, c);
     let mut count = own.count;
     let mut here = own.next;
-    let mut left = own.kids;
-    while left > 0 {
-        let below = count_changed(deck, here);
-        count += below.count;
-        here = below.next;
-        left -= 1;
+    let mut rest = own.kids;
+    while rest > 0 {
+        let child = count_changed(deck, here);
+        count += child.count;
+        here = child.next;
+        rest -= 1;
     }
     Counted { count, next: here }
 }

@@ -14,35 +14,27 @@ Inv-loop deck count₀ here₀ left₀ count here left = Sum deck count left her
 abbrev μ-loop : tie.MeasureT-loop
 μ-loop deck count₀ here₀ left₀ count here left = left
 
--- src/lib.rt:259:5
 loop-holds : tie.Need-loop-holds Inv-loop μ-loop
 loop-holds c = sum-start _
 
--- src/lib.rt:261:13
 returns : tie.Need-returns Inv-loop μ-loop
 returns c = sum-end _ _ _ _ (c .before .before .before .loop .inv) (c .if1 .taken)
 
--- src/lib.rt:263:13
 count-changed-requires : tie.Need-count-changed-requires Inv-loop μ-loop
 count-changed-requires c κs = (c .before .before .before .loop .inv .within, (c .before .before .before .before .before .pre))
 
--- src/lib.rt:264:9
 add-count : tie.Need-add-count Inv-loop μ-loop
 add-count c = let f = c .before .before .before .before .before .loop .inv .few in let g = c .before .count-changed .ensures .few in let w = c .before .count-changed .ensures .within in let l = (c .before .before .before .before .before .before .before .pre) in omega (arith, f, g, w, l)
 
--- src/lib.rt:266:9
 sub-left : tie.Need-sub-left Inv-loop μ-loop
 sub-left c = search needs
 
--- src/lib.rt:259:5
 loop-less : tie.Need-loop-less Inv-loop μ-loop
 loop-less c = search needs
 
--- src/lib.rt:259:5
 loop-again : tie.Need-loop-again Inv-loop μ-loop
 loop-again c = sum-more _ _ _ _ (c .before .before .before .before .before .before .loop .inv) (c .before .before .before .before .before .loop-test .taken) (let h = c .before .before .before .if1 .left in omega (arith, h)) (c .before .before .count-changed .ensures)
 
--- src/lib.rt:252:1
 returns-2 : tie.Need-returns-2 Inv-loop μ-loop
 returns-2 c = sum-out _ _ _ _ (c .before .loop .inv) (let z = c .loop-test .left in omega arith)
 

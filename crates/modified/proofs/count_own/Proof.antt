@@ -14,23 +14,18 @@ use Rattle.modified.proofs.kids.Reads as kids-reads
 use Rattle.modified.proofs.tally_of.Reads as tally-of-reads
 use Rattle.spot.proofs.spot_at.Reads as spot-at-reads
 
--- src/lib.rt:223:9
 spot-at-requires : tie.Need-spot-at-requires
 spot-at-requires c κs = search needs
 
--- src/lib.rt:225:9
 file-of-requires : tie.Need-file-of-requires
 file-of-requires c κs = ((c .before .before .before .pre) .0, (c .before .before .before .pre) .1, ap (λ (x : Spot). x .lead .origin) (c .before .spot-at .ensures))
 
--- src/lib.rt:226:9
 tally-of-requires : tie.Need-tally-of-requires
 tally-of-requires c κs = search needs
 
--- src/lib.rt:228:9
 kids-requires : tie.Need-kids-requires
 kids-requires c κs = rw (c .before .before .before .spot-at .ensures) (few-at (c .before .before .before .before .before .args .deck .now) (λ k. omega (arith, c .before .before .before .before .shared-slice-known .given k)) (c .before .before .before .before .before .args .c) ((c .before .before .before .before .before .pre) .0))
 
--- src/lib.rt:219:1
 returns : tie.Need-returns
 returns c = own-is (c .before .before .before .before .before .before .before .args .deck .now) (c .before .before .before .before .before .before .before .args .c) ((c .before .before .before .before .before .before .before .pre) .0) ((c .before .before .before .before .before .before .before .pre) .1) _ (c .before .before .before .file-of .ensures) _ (c .before .before .before .before .before .spot-at .ensures) (c .before .before .tally-of .ensures) (c .before .kids .ensures)
 

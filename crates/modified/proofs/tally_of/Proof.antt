@@ -6,20 +6,16 @@ use Rattle.modified.proofs.tally_of.Tie as tie
 use Rattle.modified.proofs.tally_of.Reads as reads
 use Rattle.modified.proofs.tally_of.Lts as lts
 
--- src/lib.rt:213:25
 enum-told : tie.Need-enum-told
 enum-told c = search needs
 
--- src/lib.rt:214:24
 enum-told-2 : tie.Need-enum-told-2
 enum-told-2 c = search needs
 
--- src/lib.rt:209:1
 returns : tie.Need-returns
 unfolding tally
 returns c = rw (c .enum-told .given .1)
 
--- src/lib.rt:209:1
 returns-2 : tie.Need-returns-2
 unfolding tally
 returns-2 c = rw (c .enum-told2 .given .1)
