@@ -12,8 +12,9 @@ use borrow.Author.Tests.{ltb-true, ltb-false, eqb-true, eqb-false, eq-eqb, ne-eq
 use Rattle.definition.specs.Base.{Bytes, if_then_else_}
 use Rattle.definition.specs.Tree.{Node}
 use Rattle.definition.specs.Document.{oneDocument, allDocuments}
+use Rattle.definition.specs.Change.{localModified}
 use Rattle.definition.specs.Deck.{Read, fault, got, readDeck}
-use Rattle.definition.specs.Calls.{Lent, Outcome, refused, noRoom, writeOne, writeAll}
+use Rattle.definition.specs.Calls.{Lent, Outcome, refused, noRoom, over, answered, writeOne, writeAll, tellModified}
 use Rattle.definition.specs.declared.Cursor.{Cursor}
 use Rattle.definition.specs.declared.Settings.{Settings}
 use Rattle.node.specs.Total.{treeAt, treesOf}
@@ -25,7 +26,7 @@ use Rattle.judge.specs.declared.Verdict.the-variants as verdict
 use Rattle.judge.specs.Judge.{verdictOf}
 use Rattle.agree.specs.Accepted as agreed
 use Rattle.joints.specs.Entries.{nodeAt}
-use Rattle.told.specs.Outcome.{Settled, Small, Judged, one-judged, all-judged, refused-1, refused-2, refused-read, one-refused-8, lent, told, told-fits, told-over, one-told, all-told}
+use Rattle.told.specs.Outcome.{Settled, Small, Judged, one-judged, all-judged, refused-1, refused-2, refused-read, one-refused-8, lent, told, told-fits, told-over, one-told, all-told, modified-refused-8, modified-told}
 use Rattle.layout.specs.Calm.{Calm}
 use Rattle.document.specs.Root.{begin}
 use Rattle.answers.specs.declared.Answer.{Answer}
@@ -77,6 +78,21 @@ module _ (s : Settings) (deck pool orig : Bytes) where
     all-answered n w v out out′ r g f q t =
         let u : pen v out ≡ ended (ink s (allDocuments s (treesOf deck pool)) (pen (fresh (s .width) 0 0) orig)) = q ∙ ap (λ (x : Writer). ended (ink s (allDocuments s (treesOf deck pool)) (pen x orig))) f in
         t .tells deck pool orig (ended-length-of s (allDocuments s (treesOf deck pool)) (pen w orig) (pen v out) q) ∙ sym (all-told s deck pool orig (s .width) 0 0 (λ x. x) z l (treesOf deck pool) (g .end) (g .read) (pen v out) u)
+
+-- ---- the changed test
+
+module _ (deck pool : Bytes) (l : Small (lent deck pool [])) where
+  pub not-one-looked : (n : ℕ) (r : Answer) → agreed.Accepted deck pool n → (n ≡ 1 → ⊥) → r ≡ refusal 8 0 → outcomeOf r [] [] ≡ tellModified (lent deck pool [])
+  not-one-looked n r g h a =
+      refusal-is (lent deck pool []) 8 0 r a ∙ sym (modified-refused-8 (lent deck pool []) (treesOf deck pool) (g .end) l (g .read) (λ e. h (sym (g .count) ∙ e)))
+
+  pub one-looked :
+      (n : ℕ) (b : Bool) → agreed.Accepted deck pool n → n ≡ 1 → b ≡ localModified (nodeAt deck pool (record { at = 0 }))
+      → outcomeOf (record { number = 0; place = 0; length = 0; count = 0; modified = b }) [] [] ≡ tellModified (lent deck pool [])
+  unfolding outcomeOf answered over
+  one-looked n b g h e =
+      let f : readDeck deck pool ≡ got (nodeAt deck pool (record { at = 0 }) ∷ []) (g .end) = g .read ∙ ap (λ (ns : List Node). got ns (g .end)) (agreed.one-tree deck pool (g .count ∙ h)) in
+      rw e (sym (modified-told (lent deck pool []) (nodeAt deck pool (record { at = 0 })) (g .end) l f))
 
 -- ---- the end of a run
 

@@ -1,4 +1,5 @@
-// The public calls that write: one document, all documents, under a null style or under settings. Nothing is asked of the caller.
+// The public calls: one document written, all documents, under a null style or under settings; the changed test. Nothing is asked of the
+// caller.
 use answers::Answer;
 use answers::admit;
 use answers::clear;
@@ -12,7 +13,7 @@ ghost use mathlib.Core.Path.{_≡_};
 ghost use mathlib.Core.List.{[]};
 ghost use mathlib.Core.Bool.{true, false};
 ghost use Rattle.definition.specs.Settings.{nullAs};
-ghost use Rattle.definition.specs.Calls.{outcome, emitRoundtrip, emitRoundtripWith, emitRoundtripAllWith, emitRoundtripDump};
+ghost use Rattle.definition.specs.Calls.{outcome, emitRoundtrip, emitRoundtripWith, emitRoundtripAllWith, emitRoundtripDump, callLocalModified, tellModified};
 ghost use Rattle.pen.specs.Pen.{pen};
 ghost use Rattle.agree.specs.Accepted.{Accepted};
 ghost use Rattle.told.specs.Outcome.{Settled, Small, lent};
@@ -159,6 +160,36 @@ pub fn emit_roundtrip_dump(deck: &[u8], pool: &[u8], out: &mut [u8], settings: S
     write(deck, pool, out, settings, false)
 }
 
+// The changed test of a deck of so many documents, which is accepted.
+fn look(deck: &[u8], pool: &[u8], documents: usize) -> Answer
+    requires { ⌜ Small (lent (now deck) (now pool) []) × Accepted (now deck) (now pool) documents ⌝ }
+    ensures { λ r. ⌜ outcomeOf r [] [] ≡ tellModified (lent (now (deck .entry)) (now (pool .entry)) []) ⌝ }
+{
+    if documents != 1 {
+        return refuse(8, 0);
+    }
+    let c = Cursor { at: 0 };
+    let modified = modified::local_modified(deck, c);
+    Answer {
+        number: 0,
+        place: 0,
+        length: 0,
+        count: 0,
+        modified,
+    }
+}
+
+pub fn local_modified(deck: &[u8], pool: &[u8]) -> Answer
+    ensures { λ r. ⌜ outcomeOf r [] [] ≡ outcome callLocalModified (lent (now (deck .entry)) (now (pool .entry)) []) ⌝ }
+{
+    let settings = null_as(NullStyle::Null);
+    let verdict = admit(deck, pool, 0, 0, settings);
+    match verdict {
+        Verdict::Good { documents } => look(deck, pool, documents),
+        Verdict::Refused { number, place } => refuse(number, place),
+    }
+}
+
 fn null_style_of(n: usize) -> NullStyle
     ensures { λ r. ⌜ r ≡ nullStyleOf n ⌝ }
 {
@@ -237,4 +268,11 @@ pub extern "C" fn rassemok_emit_roundtrip_dump(
 {
     let settings = settings_of(options);
     emit_roundtrip_dump(deck, pool, out, settings)
+}
+
+#[no_mangle]
+pub extern "C" fn rassemok_local_modified(deck: &[u8], pool: &[u8]) -> Answer
+    ensures { λ r. ⌜ outcomeOf r [] [] ≡ outcome callLocalModified (lent (now (deck .entry)) (now (pool .entry)) []) ⌝ }
+{
+    local_modified(deck, pool)
 }
