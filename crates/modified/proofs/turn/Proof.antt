@@ -1,0 +1,19 @@
+-- `modified::turn` meets its contract.
+use Rattle.modified.specs.Local.{turned}
+use Rattle.modified.proofs.turn.Statement.{statement}
+use Rattle.modified.proofs.turn.Tie as tie
+use Rattle.modified.proofs.turn.Reads as reads
+use Rattle.modified.proofs.turn.Lts as lts
+
+-- src/lib.rt:64:9
+returns : tie.Need-returns
+unfolding turned
+returns c = rw (c .if1 .taken)
+
+-- src/lib.rt:60:1
+returns-2 : tie.Need-returns-2
+unfolding turned
+returns-2 c = rw (c .if1 .left)
+
+pub turn-spec : {M : Type 1} → statement M
+turn-spec = tie.close (tie.spec returns returns-2)
