@@ -5,12 +5,15 @@ use Prim.Native.Nat.{ℕ, zero, suc, _-_, _*_, _<_, _≤_}
 use native.Mathlib.Omega.{arith}
 use mathlib.Core.Bool.{Bool, true, false, not, _&&_, _||_, true≢false}
 use lib.ListN.{length}
-use Rattle.definition.specs.Base.{Bytes}
+use Rattle.definition.specs.Base.{Bytes, if_then_else_}
 use Rattle.definition.specs.Tree.{kept}
 use Rattle.definition.specs.Deck.{marked}
 use Rattle.definition.specs.Change.{localModified}
 use Rattle.definition.specs.declared.Cursor.{Cursor}
+use Rattle.definition.specs.declared.File.{File}
+use Rattle.definition.specs.declared.File.the-variants.{Absent, Id}
 use Rattle.deck.specs.Kids.{twice}
+use Rattle.node.specs.declared.Origin.{Origin}
 use Rattle.node.specs.Ends.{Ends}
 use Rattle.node.specs.Fuel.{nexts}
 use Rattle.node.specs.Total.{keptOf, treeAt}
@@ -20,6 +23,7 @@ use Rattle.choices.specs.Choices.{includedIn, included-is}
 use Rattle.modified.specs.declared.Start.{Start}
 use Rattle.modified.specs.declared.Looked.{Looked}
 use Rattle.modified.specs.Local.{kidsIn, pairsIn, kids-after, seen, turned, someSeen, local-is, end-is, After, Starts, Looks}
+use Rattle.modified.specs.Files.{fileNamed, file-is, IfChanged, Files}
 
 pub twice-is : (n : ℕ) → 2 * n ≡ twice n
 unfolding twice
@@ -146,3 +150,16 @@ module _ (deck : Bytes) (c : Cursor) (key₀ : Bool) (s : Start) (b : Starts dec
       let f = i .fewer in
       let d = b .after .deeper (omega arith) in
       omega arith
+
+-- ---- the file of a node
+
+module _ (deck : Bytes) (c : Cursor) (k : c .at ≤ length deck) (o : Origin) (at : o ≡ spotAt deck c .lead .origin) where
+  pub file-absent : {f : File} → f ≡ fileNamed o → f ≡ Absent → Files deck c Absent
+  file-absent e z = record { told = λ pool. sym (rw (← at, ← e, z) at (file-is deck pool c k) ∙ same (localModified (treeAt deck pool c .value))) }
+    where
+      same : (b : Bool) → (if b then Absent else Absent) ≡ Absent
+      same true = refl
+      same false = refl
+
+  pub file-changed : {f r : File} → f ≡ fileNamed o → IfChanged deck c f r → Files deck c r
+  file-changed e i = record { told = λ pool. i .told pool ∙ sym (rw (← at, ← e) at (file-is deck pool c k)) }
