@@ -27,11 +27,11 @@ use Rattle.spot.specs.Spot.{bodyOf, spotOf, spotAt, kindOf, endOf, nodeIn, tree
 use Rattle.spot.specs.Good.{isGroup, good-at}
 use Rattle.joints.specs.Entries.{nodeAt, nextAt}
 
-module _ (deck pool : Bytes) where
-  -- the cursor after the own record of the node at a cursor: its first child's, or what follows
-  unfoldable pub stepAt : Cursor → Cursor
-  stepAt c = headAt deck c .next
+-- the cursor after the own record of the node at a cursor: its first child's, or what follows
+unfoldable pub stepAt : Bytes → Cursor → Cursor
+stepAt deck c = headAt deck c .next
 
+module _ (deck pool : Bytes) where
   -- the include of the node at a cursor, if it has a file id
   unfoldable pub ownAt : Cursor → List Boundary
   ownAt c = ownBoundary (kept (nodeAt deck pool c) .source) (nodeAt deck pool c)
@@ -39,7 +39,7 @@ module _ (deck pool : Bytes) where
   -- those of n heads, from a cursor on
   unfoldable pub filesFrom : ℕ → Cursor → List Boundary
   filesFrom zero c = []
-  filesFrom (suc n) c = ownAt c ++ filesFrom n (stepAt c)
+  filesFrom (suc n) c = ownAt c ++ filesFrom n (stepAt deck c)
 
   -- those of all heads from a cursor on
   unfoldable pub filesAt : Cursor → List Boundary
@@ -47,7 +47,7 @@ module _ (deck pool : Bytes) where
 
   -- ---- a head goes onward, or is a null that has no leading record
 
-  pub step-onward : (c : Cursor) → c .at ≤ length deck → (c .at ≤ stepAt c .at) × (stepAt c .at ≤ length deck)
+  pub step-onward : (c : Cursor) → c .at ≤ length deck → (c .at ≤ stepAt deck c .at) × (stepAt deck c .at ≤ length deck)
   unfolding stepAt
   step-onward c k = let o = head-at-onward deck c k in (omega (arith, o .ahead, o .beyond), o .within)
 
@@ -117,7 +117,7 @@ module _ (deck pool : Bytes) where
       let o = own-onward n (nextOf deck c) (next-within deck c) in
       rw e (omega (arith, l, o))
 
-  step-further : (c : Cursor) → c .at ≤ length deck → isNode (recordAt deck c) ≡ false → c .at < stepAt c .at
+  step-further : (c : Cursor) → c .at ≤ length deck → isNode (recordAt deck c) ≡ false → c .at < stepAt deck c .at
   unfolding stepAt
   step-further c k e =
       let i = lead-inside c (lead-within c e) in
@@ -137,7 +137,7 @@ module _ (deck pool : Bytes) where
   bare-own c k e = rw (tree-value deck pool c k, bare (length deck) noLead c e)
 
   -- a head that does not go onward has no file
-  stuck : (c : Cursor) → c .at ≤ length deck → stepAt c .at ≤ c .at → ownAt c ≡ []
+  stuck : (c : Cursor) → c .at ≤ length deck → stepAt deck c .at ≤ c .at → ownAt c ≡ []
   stuck c k h = go (isNode (recordAt deck c)) refl
     where
       go : (b : Bool) → isNode (recordAt deck c) ≡ b → ownAt c ≡ []
@@ -147,20 +147,20 @@ module _ (deck pool : Bytes) where
   -- ---- fuel
 
   -- the test that decides between the two
-  onward-or : {P : Type 0} (c : Cursor) → (c .at < stepAt c .at → P) → (stepAt c .at ≤ c .at → P) → P
-  onward-or {P} c f g = go (ltb (c .at) (stepAt c .at)) refl
+  onward-or : {P : Type 0} (c : Cursor) → (c .at < stepAt deck c .at → P) → (stepAt deck c .at ≤ c .at → P) → P
+  onward-or {P} c f g = go (ltb (c .at) (stepAt deck c .at)) refl
     where
-      go : (b : Bool) → ltb (c .at) (stepAt c .at) ≡ b → P
+      go : (b : Bool) → ltb (c .at) (stepAt deck c .at) ≡ b → P
       go true e = f (ltb-true _ _ e)
       go false e = g (ltb-false _ _ e)
 
   same-at : (c d : Cursor) → c .at ≡ d .at → c ≡ d
   same-at c d e = ap (λ (n : ℕ). record { at = n }) e
 
-  stays : (c : Cursor) → c .at ≤ length deck → stepAt c .at ≤ c .at → stepAt c ≡ c
+  stays : (c : Cursor) → c .at ≤ length deck → stepAt deck c .at ≤ c .at → stepAt deck c ≡ c
   stays c k h = let o = step-onward c k in same-at _ _ (omega (arith, o .0, h))
 
-  stuck-from : (n : ℕ) (c : Cursor) → c .at ≤ length deck → stepAt c .at ≤ c .at → filesFrom n c ≡ []
+  stuck-from : (n : ℕ) (c : Cursor) → c .at ≤ length deck → stepAt deck c .at ≤ c .at → filesFrom n c ≡ []
   unfolding filesFrom
   stuck-from zero c k h = refl
   stuck-from (suc n) c k h = rw (stuck c k h, stays c k h) (stuck-from n c k h)
@@ -174,16 +174,16 @@ module _ (deck pool : Bytes) where
   same-fuel (suc n) zero c k p q = ended-from (suc n) c k (omega arith)
   same-fuel (suc n) (suc m) c k p q =
       onward-or c
-      (λ h. ap (λ (bs : List Boundary). ownAt c ++ bs) (let o = step-onward c k in same-fuel n m (stepAt c) (o .1) (omega (arith, h, p)) (omega (arith, h, q))))
+      (λ h. ap (λ (bs : List Boundary). ownAt c ++ bs) (let o = step-onward c k in same-fuel n m (stepAt deck c) (o .1) (omega (arith, h, p)) (omega (arith, h, q))))
       (λ h. stuck-from (suc n) c k h ∙ sym (stuck-from (suc m) c k h))
 
   -- the files from a head on are its own and those from the next head on
-  pub files-is : (c : Cursor) → c .at ≤ length deck → filesAt c ≡ ownAt c ++ filesAt (stepAt c)
+  pub files-is : (c : Cursor) → c .at ≤ length deck → filesAt c ≡ ownAt c ++ filesAt (stepAt deck c)
   unfolding filesAt filesFrom
   files-is c k = same-fuel (length deck) (suc (length deck)) c k (omega arith) (omega arith)
 
   -- none, where the head does not go onward
-  pub files-stuck : (c : Cursor) → c .at ≤ length deck → stepAt c .at ≤ c .at → filesAt c ≡ []
+  pub files-stuck : (c : Cursor) → c .at ≤ length deck → stepAt deck c .at ≤ c .at → filesAt c ≡ []
   unfolding filesAt
   files-stuck c k h = stuck-from (length deck) c k h
 
@@ -232,18 +232,18 @@ module _ (deck pool : Bytes) where
   scan-body (body.Sequence g) c k h = scan-items (g .count) c k (h refl)
   scan-body (body.Mapping g) c k h = scan-pairs (g .count) c k (h refl)
 
-  scan-node : (c : Cursor) → c .at ≤ length deck → (isGroup (spotAt deck c .body) ≡ true → ScansFrom (stepAt c)) → Scans c
+  scan-node : (c : Cursor) → c .at ≤ length deck → (isGroup (spotAt deck c .body) ≡ true → ScansFrom (stepAt deck c)) → Scans c
   unfolding boundaries nodeIn ownAt kept stepAt spotAt spotOf
   scan-node c k h =
       let o = step-onward c k in
       let x = spotAt deck c in
-      let q = scan-body (x .body) (stepAt c) (o .1) h in
+      let q = scan-body (x .body) (stepAt deck c) (o .1) h in
       rw (files-is c k, tree-value deck pool c k, tree-end deck pool c k)
       (append-assoc (ownBoundary (keptOf deck pool (x .lead) .source) (nodeIn deck pool x)) _ _ ∙ ap (λ (bs : List Boundary). ownBoundary (keptOf deck pool (x .lead) .source) (nodeIn deck pool x) ++ bs) q)
 
   module _ (small : length deck ≤ 65536) where
     -- children stand further on
-    deeper : (c : Cursor) → c .at ≤ length deck → isGroup (spotAt deck c .body) ≡ true → c .at < stepAt c .at
+    deeper : (c : Cursor) → c .at ≤ length deck → isGroup (spotAt deck c .body) ≡ true → c .at < stepAt deck c .at
     unfolding stepAt spotAt spotOf
     deeper c k e = let g = good-at deck c k small in let d = g .0 .deeper e in let p = g .1 in omega (arith, d, p)
 
@@ -263,7 +263,7 @@ module _ (deck pool : Bytes) where
     nexts-onward (suc n) c k = let m = tree-moves deck pool c k in let i = nexts-onward n (nextAt deck pool c) (m .1) in omega (arith, m .0, i)
 
     -- a tree ends past its head
-    step-first : (c : Cursor) → c .at ≤ length deck → stepAt c .at ≤ nextAt deck pool c .at
+    step-first : (c : Cursor) → c .at ≤ length deck → stepAt deck c .at ≤ nextAt deck pool c .at
     unfolding stepAt
     step-first c k = let o = step-onward c k in rw (tree-next deck pool c k) (nexts-onward _ (headAt deck c .next) (unfold stepAt in o .1))
 

@@ -123,8 +123,8 @@ module _ (deck pool : Bytes) where
       let d = treeAt deck pool c .next in
       changed-append (boundaries (treeAt deck pool c .value)) _
       ∙ ap (λ (ws : List Written). changed (boundaries (treeAt deck pool c .value)) ++ ws)
-        (changed-append (boundaries (treeAt deck pool d .value)) _
-        ∙ ap (λ (ws : List Written). changed (boundaries (treeAt deck pool d .value)) ++ ws) (changed-pairs n (treeAt deck pool d .next)))
+      (changed-append (boundaries (treeAt deck pool d .value)) _
+      ∙ ap (λ (ws : List Written). changed (boundaries (treeAt deck pool d .value)) ++ ws) (changed-pairs n (treeAt deck pool d .next)))
 
   changed-in : (b : Body) (c : Cursor) → changed (boundariesIn (kindOf deck pool b c)) ≡ changedFrom (kidsIn b) c
   unfolding changed boundariesIn kindOf changedFrom kidsIn

@@ -148,7 +148,6 @@ pub fn local_modified(deck: &[u8], c: Cursor) -> bool
     r.modified
 }
 
-
 // The file of an include that may be absent.
 fn file_named(origin: Origin) -> File
     ensures { λ r. ⌜ r ≡ fileNamed origin ⌝ }
