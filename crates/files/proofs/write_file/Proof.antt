@@ -1,3 +1,6 @@
+-- `files::write_file` meets its contract.
+use native.Mathlib.Omega.{arith}
+use Rattle.files.proofs.Laws.{file-calm, file-len, file-done}
 use borrow.Author.Needs.{needs}
 use Rattle.files.proofs.write_file.Statement.{statement}
 use Rattle.files.proofs.write_file.Tie as tie
@@ -7,41 +10,37 @@ use Rattle.document.proofs.fresh_writer.Reads as fresh-writer-reads
 use Rattle.document.proofs.write_one.Reads as write-one-reads
 use Rattle.files.proofs.plain.Reads as plain-reads
 
--- src/lib.rt:102:9
 plain-requires : tie.Need-plain-requires
 plain-requires c κs = search needs
 
--- src/lib.rt:103:9
 fresh-writer-requires : tie.Need-fresh-writer-requires
 fresh-writer-requires c κs = search needs
 
--- src/lib.rt:105:48
 sub-write-one : tie.Need-sub-write-one
 sub-write-one c = search needs
 
--- src/lib.rt:105:48
 part-write-one-start : tie.Need-part-write-one-start
 part-write-one-start c = search needs
 
--- src/lib.rt:105:48
 part-write-one-end : tie.Need-part-write-one-end
 part-write-one-end c = search needs
 
--- src/lib.rt:105:9
 write-one-requires : tie.Need-write-one-requires
-write-one-requires c κs = ?
+write-one-requires c κs = file-calm (c .before .before .before .before .before .before .before .args .deck .now) (c .before .before .before .before .before .before .before .args .pool .now) (c .before .before .before .before .before .before .before .args .out .now) (c .before .before .before .before .before .before .before .args .start) (c .before .before .before .before .before .before .before .args .f .at) _ _ (c .before .before .before .plain .ensures) (c .before .before .fresh-writer .ensures) ((c .before .before .before .before .before .before .before .pre) .0) ((c .before .before .before .before .before .before .before .pre) .1) ((c .before .before .before .before .before .before .before .pre) .2) ((c .before .before .before .before .before .before .before .pre) .4) (λ k. omega (arith, c .before .before .before .before .slice-known .given k))
 
--- src/lib.rt:115:16
 add-t15 : tie.Need-add-t15
-add-t15 c = ?
+add-t15 c =
+    let b = file-calm (c .before .before .before .before .before .before .before .before .before .before .before .args .deck .now) (c .before .before .before .before .before .before .before .before .before .before .before .args .pool .now) (c .before .before .before .before .before .before .before .before .before .before .before .args .out .now) (c .before .before .before .before .before .before .before .before .before .before .before .args .start) (c .before .before .before .before .before .before .before .before .before .before .before .args .f .at) _ _ (c .before .before .before .before .before .before .before .plain .ensures) (c .before .before .before .before .before .before .fresh-writer .ensures) ((c .before .before .before .before .before .before .before .before .before .before .before .pre) .0) ((c .before .before .before .before .before .before .before .before .before .before .before .pre) .1) ((c .before .before .before .before .before .before .before .before .before .before .before .pre) .2) ((c .before .before .before .before .before .before .before .before .before .before .before .pre) .4) (λ k. omega (arith, c .before .before .before .before .before .before .before .before .slice-known .given k)) in
+    let n = file-len (c .before .before .before .before .before .before .before .before .before .before .before .args .out .now) (c .before .before .before .before .before .before .before .before .before .before .before .args .start) _ _ _ b (c .before .before .before .write-one .ensures) in
+    let o = (c .before .before .before .before .before .before .before .before .before .before .before .pre) .2 in
+    let r = (c .before .before .before .before .before .before .before .before .before .before .before .pre) .3 in
+    omega (arith, n, o, r)
 
--- src/lib.rt:98:1
 same-length : tie.Need-same-length
 same-length c = search needs
 
--- src/lib.rt:98:1
 returns : tie.Need-returns
-returns c = ?
+returns c = file-done (c .before .before .before .before .before .before .before .before .before .before .before .args .deck .now) (c .before .before .before .before .before .before .before .before .before .before .before .args .pool .now) (c .before .before .before .before .before .before .before .before .before .before .before .args .out .now) (c .before .before .before .before .before .before .before .before .before .before .before .args .start) (c .before .before .before .before .before .before .before .before .before .before .before .args .f) _ _ _ _ (c .before .before .before .before .before .before .before .plain .ensures) (c .before .before .before .before .before .before .fresh-writer .ensures) (c .before .before .before .write-one .ensures)
 
 pub write-file-spec : {M : Type 1} → statement M
 write-file-spec =
