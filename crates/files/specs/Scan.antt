@@ -147,7 +147,7 @@ module _ (deck pool : Bytes) where
   -- ---- fuel
 
   -- the test that decides between the two
-  onward-or : {P : Type 0} (c : Cursor) → (c .at < stepAt deck c .at → P) → (stepAt deck c .at ≤ c .at → P) → P
+  pub onward-or : {P : Type 0} (c : Cursor) → (c .at < stepAt deck c .at → P) → (stepAt deck c .at ≤ c .at → P) → P
   onward-or {P} c f g = go (ltb (c .at) (stepAt deck c .at)) refl
     where
       go : (b : Bool) → ltb (c .at) (stepAt deck c .at) ≡ b → P
