@@ -1,0 +1,57 @@
+-- `files::write_file` meets its contract.
+use native.Mathlib.Omega.{arith}
+use Rattle.files.proofs.Laws.{file-calm, file-len, file-done}
+use borrow.Author.Needs.{needs}
+use Rattle.files.proofs.write_file.Statement.{statement}
+use Rattle.files.proofs.write_file.Tie as tie
+use Rattle.files.proofs.write_file.Reads as reads
+use Rattle.files.proofs.write_file.Lts as lts
+use Rattle.document.proofs.fresh_writer.Reads as fresh-writer-reads
+use Rattle.document.proofs.write_one.Reads as write-one-reads
+use Rattle.files.proofs.plain.Reads as plain-reads
+
+plain-requires : tie.Need-plain-requires
+plain-requires c κs = search needs
+
+fresh-writer-requires : tie.Need-fresh-writer-requires
+fresh-writer-requires c κs = search needs
+
+sub-write-one : tie.Need-sub-write-one
+sub-write-one c = search needs
+
+part-write-one-start : tie.Need-part-write-one-start
+part-write-one-start c = search needs
+
+part-write-one-end : tie.Need-part-write-one-end
+part-write-one-end c = search needs
+
+write-one-requires : tie.Need-write-one-requires
+write-one-requires c κs = file-calm (c .before .before .before .before .before .before .before .args .deck .now) (c .before .before .before .before .before .before .before .args .pool .now) (c .before .before .before .before .before .before .before .args .out .now) (c .before .before .before .before .before .before .before .args .start) (c .before .before .before .before .before .before .before .args .f .at) _ _ (c .before .before .before .plain .ensures) (c .before .before .fresh-writer .ensures) ((c .before .before .before .before .before .before .before .pre) .0) ((c .before .before .before .before .before .before .before .pre) .1) ((c .before .before .before .before .before .before .before .pre) .2) ((c .before .before .before .before .before .before .before .pre) .4) (λ k. omega (arith, c .before .before .before .before .slice-known .given k))
+
+add-t15 : tie.Need-add-t15
+add-t15 c =
+    let b = file-calm (c .before .before .before .before .before .before .before .before .before .before .before .args .deck .now) (c .before .before .before .before .before .before .before .before .before .before .before .args .pool .now) (c .before .before .before .before .before .before .before .before .before .before .before .args .out .now) (c .before .before .before .before .before .before .before .before .before .before .before .args .start) (c .before .before .before .before .before .before .before .before .before .before .before .args .f .at) _ _ (c .before .before .before .before .before .before .before .plain .ensures) (c .before .before .before .before .before .before .fresh-writer .ensures) ((c .before .before .before .before .before .before .before .before .before .before .before .pre) .0) ((c .before .before .before .before .before .before .before .before .before .before .before .pre) .1) ((c .before .before .before .before .before .before .before .before .before .before .before .pre) .2) ((c .before .before .before .before .before .before .before .before .before .before .before .pre) .4) (λ k. omega (arith, c .before .before .before .before .before .before .before .before .slice-known .given k)) in
+    let n = file-len (c .before .before .before .before .before .before .before .before .before .before .before .args .out .now) (c .before .before .before .before .before .before .before .before .before .before .before .args .start) _ _ _ b (c .before .before .before .write-one .ensures) in
+    let o = (c .before .before .before .before .before .before .before .before .before .before .before .pre) .2 in
+    let r = (c .before .before .before .before .before .before .before .before .before .before .before .pre) .3 in
+    omega (arith, n, o, r)
+
+same-length : tie.Need-same-length
+same-length c = search needs
+
+returns : tie.Need-returns
+returns c = file-done (c .before .before .before .before .before .before .before .before .before .before .before .args .deck .now) (c .before .before .before .before .before .before .before .before .before .before .before .args .pool .now) (c .before .before .before .before .before .before .before .before .before .before .before .args .out .now) (c .before .before .before .before .before .before .before .before .before .before .before .args .start) (c .before .before .before .before .before .before .before .before .before .before .before .args .f) _ _ _ _ (c .before .before .before .before .before .before .before .plain .ensures) (c .before .before .before .before .before .before .fresh-writer .ensures) (c .before .before .before .write-one .ensures)
+
+pub write-file-spec : {M : Type 1} → statement M
+write-file-spec =
+    tie.close
+    (tie.spec
+    plain-requires
+    fresh-writer-requires
+    sub-write-one
+    part-write-one-start
+    part-write-one-end
+    write-one-requires
+    add-t15
+    same-length
+    returns)

@@ -1,0 +1,4 @@
+pub mod Scan
+pub mod Files
+pub mod Step
+pub mod Next
