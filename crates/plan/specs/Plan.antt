@@ -61,9 +61,9 @@ answerAfter room p end =
     let wrote : Answer = record { number = 0; place = 0; length = end .start; count = p .stores; modified = false } in
     if eqb (p .stage) 2 then (if ltb room (end .start) then refusal 10 0 else wrote) else p .answer
 
-unfoldable pub settledOf : ℕ → Plan → Walk → ℕ → Plan
-settledOf room p end entries =
-    record { answer = answerAfter room p end; first = nowhere; stores = if isLate room p end then entries else 0; stage = 0 }
+unfoldable pub settledOf : Bytes → Plan → Walk → ℕ → Plan
+settledOf out p end entries =
+    record { answer = answerAfter (length out) p end; first = nowhere; stores = if isLate (length out) p end then entries else 0; stage = 0 }
 
 unfoldable pub clearedOf : Bytes → Plan → Walk → Bytes
 clearedOf out p end = if isLate (length out) p end then replicate (length out) 0 else out

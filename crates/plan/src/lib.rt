@@ -112,7 +112,7 @@ fn answer_after(room: usize, plan: Plan, end: Walk) -> Answer
 
 // The answer once the files are written, by the walk at their end. Where there was no room the output is zeroed, and so is to be the list.
 pub fn settle(out: &mut [u8], plan: Plan, end: Walk, entries: usize) -> Plan
-    ensures { λ r. ⌜ (r ≡ settledOf (length (now (out .entry))) plan end entries) × (now (out .exit) ≡ clearedOf (now (out .entry)) plan end) × (r .stores ≤ entries) ⌝ }
+    ensures { λ r. ⌜ (r ≡ settledOf (now (out .entry)) plan end entries) × (now (out .exit) ≡ clearedOf (now (out .entry)) plan end) × (r .stores ≤ entries) ⌝ }
 {
     let answer = answer_after(out.len(), plan, end);
     let first = zeros();
