@@ -1,85 +1,20 @@
--- Laws of the calls: from what their parts do to the definition's outcome.
+-- The changed test: from what its parts do to the definition's outcome.
 -- Assumes nothing.
-use mathlib.Core.Path.{_≡_, refl, sym, ap, _∙_}
-use Prim.Native.Nat.{ℕ, zero, suc, _+_, _<_, _≤_}
-use native.Mathlib.Omega.{arith}
-use mathlib.Core.Bool.{Bool, true, false, _||_}
+use mathlib.Core.Path.{_≡_, sym, ap, _∙_}
+use Prim.Native.Nat.{ℕ}
+use mathlib.Core.Bool.{Bool}
 use mathlib.Core.List.{List, [], _∷_}
-use lib.ListN.{length, getD, set, length-set, replicate}
-use lib.Seq.{getD-set-same, getD-set-other}
-use lib.Dec.{ltb, eqb}
-use borrow.Author.Tests.{ltb-true, ltb-false, eqb-true, eqb-false, eq-eqb, ne-eqb, lt-ltb, le-ltb}
-use Rattle.definition.specs.Base.{Bytes, if_then_else_}
+use Rattle.definition.specs.Base.{Bytes}
 use Rattle.definition.specs.Tree.{Node}
-use Rattle.definition.specs.Document.{oneDocument, allDocuments}
 use Rattle.definition.specs.Change.{localModified}
-use Rattle.definition.specs.Deck.{Read, fault, got, readDeck}
-use Rattle.definition.specs.Calls.{Lent, Outcome, refused, noRoom, over, answered, writeOne, writeAll, tellModified}
-use Rattle.definition.specs.declared.Cursor.{Cursor}
-use Rattle.definition.specs.declared.Settings.{Settings}
-use Rattle.node.specs.Total.{treeAt, treesOf}
-use Rattle.pen.specs.declared.Writer.{Writer}
-use Rattle.pen.specs.Pen.{Pen, pen, ink, ended}
-use Rattle.pen.specs.Shown.{fresh}
-use Rattle.scripts.specs.Keep.{ended-length-of}
-use Rattle.judge.specs.declared.Verdict.the-variants as verdict
-use Rattle.judge.specs.Judge.{verdictOf}
+use Rattle.definition.specs.Deck.{got, readDeck}
+use Rattle.definition.specs.Calls.{over, answered, tellModified}
+use Rattle.node.specs.Total.{treesOf}
 use Rattle.agree.specs.Accepted as agreed
 use Rattle.joints.specs.Entries.{nodeAt}
-use Rattle.told.specs.Outcome.{Settled, Small, Judged, one-judged, all-judged, refused-1, refused-2, refused-read, one-refused-8, lent, told, told-fits, told-over, one-told, all-told, modified-refused-8, modified-told}
-use Rattle.layout.specs.Calm.{Calm}
-use Rattle.document.specs.Root.{begin}
+use Rattle.told.specs.Outcome.{Small, lent, modified-refused-8, modified-told}
 use Rattle.answers.specs.declared.Answer.{Answer}
 use Rattle.answers.specs.Answer.{outcomeOf, refusal, refusal-is}
-use Rattle.answers.specs.Admitted.{Refuses}
-use Rattle.rassemok.specs.Written.{written, Tells}
-
-module _ (s : Settings) (deck pool orig : Bytes) where
-  -- both calls test limits and deck first
-  judged : (all : Bool) → Judged s (written s all)
-  unfolding written
-  judged true = all-judged s
-  judged false = one-judged s
-
-  -- ---- refusals
-
-  pub refused-so :
-      (all : Bool) (n p : ℕ) (r : Answer) → Refuses s (lent deck pool orig) n p → r ≡ refusal n p → outcomeOf r orig [] ≡ written s all (lent deck pool orig)
-  refused-so all n p r h a = refusal-is (lent deck pool orig) n p r a ∙ sym (h .refuses (written s all) (judged all))
-
-  module _ (z : Settled s) (l : Small (lent deck pool orig)) where
-    pub not-one :
-        (n : ℕ) (r : Answer) → agreed.Accepted deck pool n → (n ≡ 1 → ⊥) → r ≡ refusal 8 0 → outcomeOf r orig [] ≡ written s false (lent deck pool orig)
-    unfolding written
-    not-one n r g h a =
-        refusal-is (lent deck pool orig) 8 0 r a ∙ sym (one-refused-8 s (lent deck pool orig) (treesOf deck pool) (g .end) z l (g .read) (λ e. h (sym (g .count) ∙ e)))
-
-    -- ---- the emission
-
-    pub begin-at : (w : Writer) → w ≡ fresh (s .width) 0 0 → ((i : ℕ) → getD orig i 0 < 256) → Calm s deck pool (pen w orig) 0 0
-    begin-at w f b = rw f (begin s deck pool orig (s .width) (l .deck) (l .pool) (l .output) (z .indent) b)
-
-    pub one-answered :
-        (w v : Writer) (out out′ : Bytes) (r : Answer) → agreed.Accepted deck pool 1 → w ≡ fresh (s .width) 0 0
-        → pen v out ≡ ended (ink s (oneDocument s false (nodeAt deck pool (record { at = 0 }))) (pen w orig)) → Tells (pen v out) r out′
-        → outcomeOf r out′ [] ≡ written s false (lent deck pool orig)
-    unfolding written
-    one-answered w v out out′ r g f q t =
-        let n : Node = nodeAt deck pool (record { at = 0 }) in
-        let e : readDeck deck pool ≡ got (n ∷ []) (g .end) = g .read ∙ ap (λ (ns : List Node). got ns (g .end)) (agreed.one-tree deck pool (g .count)) in
-        let u : pen v out ≡ ended (ink s (oneDocument s false n) (pen (fresh (s .width) 0 0) orig)) = q ∙ ap (λ (x : Writer). ended (ink s (oneDocument s false n) (pen x orig))) f in
-        t .tells deck pool orig (ended-length-of s (oneDocument s false n) (pen w orig) (pen v out) q) ∙ sym (one-told s deck pool orig (s .width) 0 0 (λ x. x) z l n (g .end) e (pen v out) u)
-
-    pub all-answered :
-        (n : ℕ) (w v : Writer) (out out′ : Bytes) (r : Answer) → agreed.Accepted deck pool n → w ≡ fresh (s .width) 0 0
-        → pen v out ≡ ended (ink s (allDocuments s (treesOf deck pool)) (pen w orig)) → Tells (pen v out) r out′
-        → outcomeOf r out′ [] ≡ written s true (lent deck pool orig)
-    unfolding written
-    all-answered n w v out out′ r g f q t =
-        let u : pen v out ≡ ended (ink s (allDocuments s (treesOf deck pool)) (pen (fresh (s .width) 0 0) orig)) = q ∙ ap (λ (x : Writer). ended (ink s (allDocuments s (treesOf deck pool)) (pen x orig))) f in
-        t .tells deck pool orig (ended-length-of s (allDocuments s (treesOf deck pool)) (pen w orig) (pen v out) q) ∙ sym (all-told s deck pool orig (s .width) 0 0 (λ x. x) z l (treesOf deck pool) (g .end) (g .read) (pen v out) u)
-
--- ---- the changed test
 
 module _ (deck pool : Bytes) (l : Small (lent deck pool [])) where
   pub not-one-looked : (n : ℕ) (r : Answer) → agreed.Accepted deck pool n → (n ≡ 1 → ⊥) → r ≡ refusal 8 0 → outcomeOf r [] [] ≡ tellModified (lent deck pool [])
@@ -93,15 +28,3 @@ module _ (deck pool : Bytes) (l : Small (lent deck pool [])) where
   one-looked n b g h e =
       let f : readDeck deck pool ≡ got (nodeAt deck pool (record { at = 0 }) ∷ []) (g .end) = g .read ∙ ap (λ (ns : List Node). got ns (g .end)) (agreed.one-tree deck pool (g .count ∙ h)) in
       rw e (sym (modified-told (lent deck pool []) (nodeAt deck pool (record { at = 0 })) (g .end) l f))
-
--- ---- the end of a run
-
-pub tells-over :
-    (q : Pen) (r : Answer) (out : Bytes) → length (q .out) < q .w .len → r ≡ refusal 10 0 → out ≡ replicate (length (q .out)) 0 → Tells q r out
-unfolding outcomeOf refusal noRoom
-tells-over q r out h a z = record { tells = λ deck pool orig e. sym (told-over q (lent deck pool orig) (let f : length (q .out) ≡ length orig = e in omega (arith, f, h)) ∙ rw (a, z, e)) }
-
-pub tells-fits :
-    (q : Pen) (r : Answer) → q .w .len ≤ length (q .out) → r ≡ record { number = 0; place = 0; length = q .w .len; count = 0; modified = false } → Tells q r (q .out)
-unfolding outcomeOf
-tells-fits q r h a = record { tells = λ deck pool orig e. sym (told-fits q (lent deck pool orig) (let f : length (q .out) ≡ length orig = e in omega (arith, f, h)) ∙ rw a) }

@@ -2,23 +2,18 @@
 // caller.
 use answers::Answer;
 use answers::admit;
-use answers::clear;
 use answers::refuse;
 use definition::Cursor;
 use definition::NullStyle;
 use definition::Settings;
 use judge::Verdict;
-use pen::Writer;
 ghost use mathlib.Core.Path.{_≡_};
 ghost use mathlib.Core.List.{[]};
-ghost use mathlib.Core.Bool.{true, false};
 ghost use Rattle.definition.specs.Settings.{nullAs};
 ghost use Rattle.definition.specs.Calls.{outcome, emitRoundtrip, emitRoundtripWith, emitRoundtripAllWith, emitRoundtripDump, callLocalModified, tellModified};
-ghost use Rattle.pen.specs.Pen.{pen};
 ghost use Rattle.agree.specs.Accepted.{Accepted};
-ghost use Rattle.told.specs.Outcome.{Settled, Small, lent};
+ghost use Rattle.told.specs.Outcome.{Small, lent};
 ghost use Rattle.answers.specs.Answer.{outcomeOf};
-ghost use Rattle.rassemok.specs.Written.{written, Tells};
 ghost use Rattle.rassemok.specs.Options.{nullStyleOf, isOn, settingsOf};
 
 // Settings, as numbers.
@@ -31,81 +26,6 @@ pub struct Options {
     pub indentless: usize,
     pub single_quotes: usize,
     pub width: usize,
-}
-
-// The answer at the end of a run. Where the output was too short it is refusal 10, and the output is all zero.
-fn settle(w: Writer, out: &mut [u8]) -> Answer
-    ensures { λ r. ⌜ Tells (pen w (now (out .entry))) r (now (out .exit)) ⌝ }
-{
-    let length = w.len;
-    if out.len() < length {
-        clear(out);
-        return refuse(10, 0);
-    }
-    Answer {
-        number: 0,
-        place: 0,
-        length,
-        count: 0,
-        modified: false,
-    }
-}
-
-fn emit_one(deck: &[u8], pool: &[u8], out: &mut [u8], settings: Settings) -> Answer
-    requires { ⌜ Settled settings × Small (lent (now deck) (now pool) (now out)) × Accepted (now deck) (now pool) 1 ⌝ }
-    ensures { λ r. ⌜ outcomeOf r (now (out .exit)) [] ≡ written settings false (lent (now (deck .entry)) (now (pool .entry)) (now (out .entry))) ⌝ }
-{
-    let w = document::fresh_writer(settings);
-    let c = Cursor { at: 0 };
-    let v = document::write_one(w, deck, pool, out, settings, c, false);
-    settle(v, out)
-}
-
-fn emit_all(
-    deck: &[u8],
-    pool: &[u8],
-    out: &mut [u8],
-    settings: Settings,
-    documents: usize,
-) -> Answer
-    requires { ⌜ Settled settings × Small (lent (now deck) (now pool) (now out)) × Accepted (now deck) (now pool) documents ⌝ }
-    ensures { λ r. ⌜ outcomeOf r (now (out .exit)) [] ≡ written settings true (lent (now (deck .entry)) (now (pool .entry)) (now (out .entry))) ⌝ }
-{
-    let w = document::fresh_writer(settings);
-    let v = document::write_all(w, deck, pool, out, settings);
-    settle(v, out)
-}
-
-// A deck of so many documents, which is accepted.
-fn emit(
-    deck: &[u8],
-    pool: &[u8],
-    out: &mut [u8],
-    settings: Settings,
-    all: bool,
-    documents: usize,
-) -> Answer
-    requires { ⌜ Settled settings × Small (lent (now deck) (now pool) (now out)) × Accepted (now deck) (now pool) documents ⌝ }
-    ensures { λ r. ⌜ outcomeOf r (now (out .exit)) [] ≡ written settings all (lent (now (deck .entry)) (now (pool .entry)) (now (out .entry))) ⌝ }
-{
-    if all {
-        return emit_all(deck, pool, out, settings, documents);
-    }
-    if documents != 1 {
-        return refuse(8, 0);
-    }
-    emit_one(deck, pool, out, settings)
-}
-
-// The limits, the judge, the emission.
-fn write(deck: &[u8], pool: &[u8], out: &mut [u8], settings: Settings, all: bool) -> Answer
-    ensures { λ r. ⌜ outcomeOf r (now (out .exit)) [] ≡ written settings all (lent (now (deck .entry)) (now (pool .entry)) (now (out .entry))) ⌝ }
-{
-    let verdict = admit(deck, pool, out.len(), 0, settings);
-    match verdict {
-        Verdict::Good { documents } => emit(deck, pool, out, settings, all, documents),
-        Verdict::Refused { number, place } => refuse(number, place),
-    }
 }
 
 // All false and zero, and a null style.
@@ -127,7 +47,7 @@ pub fn emit_roundtrip(deck: &[u8], pool: &[u8], out: &mut [u8]) -> Answer
     ensures { λ r. ⌜ outcomeOf r (now (out .exit)) [] ≡ outcome emitRoundtrip (lent (now (deck .entry)) (now (pool .entry)) (now (out .entry))) ⌝ }
 {
     let settings = null_as(NullStyle::Null);
-    write(deck, pool, out, settings, false)
+    writing::write(deck, pool, out, settings, false)
 }
 
 pub fn emit_roundtrip_with(
@@ -139,7 +59,7 @@ pub fn emit_roundtrip_with(
     ensures { λ r. ⌜ outcomeOf r (now (out .exit)) [] ≡ outcome (emitRoundtripWith «null_style») (lent (now (deck .entry)) (now (pool .entry)) (now (out .entry))) ⌝ }
 {
     let settings = null_as(null_style);
-    write(deck, pool, out, settings, false)
+    writing::write(deck, pool, out, settings, false)
 }
 
 pub fn emit_roundtrip_all_with(
@@ -151,13 +71,13 @@ pub fn emit_roundtrip_all_with(
     ensures { λ r. ⌜ outcomeOf r (now (out .exit)) [] ≡ outcome (emitRoundtripAllWith «null_style») (lent (now (deck .entry)) (now (pool .entry)) (now (out .entry))) ⌝ }
 {
     let settings = null_as(null_style);
-    write(deck, pool, out, settings, true)
+    writing::write(deck, pool, out, settings, true)
 }
 
 pub fn emit_roundtrip_dump(deck: &[u8], pool: &[u8], out: &mut [u8], settings: Settings) -> Answer
     ensures { λ r. ⌜ outcomeOf r (now (out .exit)) [] ≡ outcome (emitRoundtripDump settings) (lent (now (deck .entry)) (now (pool .entry)) (now (out .entry))) ⌝ }
 {
-    write(deck, pool, out, settings, false)
+    writing::write(deck, pool, out, settings, false)
 }
 
 // The changed test of a deck of so many documents, which is accepted.

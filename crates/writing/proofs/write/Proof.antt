@@ -1,9 +1,9 @@
 use Rattle.answers.specs.Admitted.{Says, said}
 use Rattle.told.specs.Outcome.{lent}
-use Rattle.rassemok.proofs.Laws.{refused-so}
+use Rattle.writing.proofs.Laws.{refused-so}
 use borrow.Author.Needs.{needs}
-use Rattle.rassemok.proofs.write.Statement.{statement}
-use Rattle.rassemok.proofs.write.Tie as tie
+use Rattle.writing.proofs.write.Statement.{statement}
+use Rattle.writing.proofs.write.Tie as tie
 
 admit-requires : tie.Need-admit-requires
 admit-requires c κs = search needs

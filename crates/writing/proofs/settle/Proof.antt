@@ -1,11 +1,11 @@
 use native.Mathlib.Omega.{arith}
 use mathlib.Core.Path.{refl}
-use Rattle.rassemok.proofs.Laws.{tells-over, tells-fits}
+use Rattle.writing.proofs.Laws.{tells-over, tells-fits}
 use borrow.Author.Needs.{needs}
-use Rattle.rassemok.proofs.settle.Statement.{statement}
-use Rattle.rassemok.proofs.settle.Tie as tie
-use Rattle.rassemok.proofs.settle.Reads as reads
-use Rattle.rassemok.proofs.settle.Lts as lts
+use Rattle.writing.proofs.settle.Statement.{statement}
+use Rattle.writing.proofs.settle.Tie as tie
+use Rattle.writing.proofs.settle.Reads as reads
+use Rattle.writing.proofs.settle.Lts as lts
 use Rattle.answers.proofs.clear.Reads as clear-reads
 use Rattle.answers.proofs.refuse.Reads as refuse-reads
 
