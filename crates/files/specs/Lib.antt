@@ -2,3 +2,4 @@ pub mod Scan
 pub mod Files
 pub mod Step
 pub mod Next
+pub mod Run
