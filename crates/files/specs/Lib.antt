@@ -3,3 +3,4 @@ pub mod Files
 pub mod Step
 pub mod Next
 pub mod Run
+pub mod Stored
