@@ -11,18 +11,19 @@ use Rattle.definition.specs.Deck.{marked}
 use Rattle.definition.specs.Change.{localModified}
 use Rattle.definition.specs.declared.Cursor.{Cursor}
 use Rattle.definition.specs.declared.File.{File}
-use Rattle.definition.specs.declared.File.the-variants.{Absent, Id}
+use Rattle.definition.specs.declared.File.the-variants.{Absent}
 use Rattle.deck.specs.Kids.{twice}
 use Rattle.node.specs.declared.Origin.{Origin}
 use Rattle.node.specs.Ends.{Ends}
 use Rattle.node.specs.Fuel.{nexts}
-use Rattle.node.specs.Total.{keptOf, treeAt}
+use Rattle.node.specs.Total.{treeAt}
 use Rattle.spot.specs.declared.Spot.{Spot}
 use Rattle.spot.specs.Spot.{spotAt, nodeIn, tree-value}
 use Rattle.choices.specs.Choices.{includedIn, included-is}
 use Rattle.modified.specs.declared.Start.{Start}
 use Rattle.modified.specs.declared.Looked.{Looked}
-use Rattle.modified.specs.Local.{kidsIn, pairsIn, kids-after, seen, turned, someSeen, local-is, end-is, After, Starts, Looks}
+use Rattle.modified.specs.Local.{kidsIn, pairsIn, kids-after, seen, turned, someSeen, local-is, end-is, Starts, Looks}
+use Rattle.modified.proofs.Going.{Going, going-on, going-end}
 use Rattle.modified.specs.Files.{fileNamed, file-is, IfChanged, Files}
 
 pub twice-is : (n : ℕ) → 2 * n ≡ twice n
@@ -82,16 +83,10 @@ module _ (deck : Bytes) (c : Cursor) (k : c .at ≤ length deck) (key : Bool) (x
 
 -- ---- the children, one after another
 
--- with any pool, what is left says what the whole says, and ends where it ends
+-- with any pool, what is left says what the whole says
 pub record Left (deck : Bytes) (pairs key₀ : Bool) (n : ℕ) (c : Cursor) (key : Bool) (left : ℕ) (here : Cursor) : Type 0 where
   pub told : (pool : Bytes) → someSeen deck pool pairs key left here ≡ someSeen deck pool pairs key₀ n c
-  pub ends : (pool : Bytes) → nexts (λ d. treeAt deck pool d .next) left here ≡ nexts (λ d. treeAt deck pool d .next) n c
-  pub onward : c .at ≤ here .at
-  pub within : here .at ≤ length deck
-  pub fewer : left ≤ n
-
-pub all-left : (deck : Bytes) (pairs key : Bool) (n : ℕ) (c : Cursor) → c .at ≤ length deck → Left deck pairs key n c key n c
-all-left deck pairs key n c k = record { told = λ pool. refl; ends = λ pool. refl; onward = omega arith; within = k; fewer = omega arith }
+  pub going : Going deck n c left here
 
 module _ (deck : Bytes) (pairs key₀ : Bool) (n : ℕ) (c : Cursor) (key : Bool) (left : ℕ) (here : Cursor) where
   seen-more : (pool : Bytes) {r : Looked} → 0 < left → Looks deck here key r → (r .modified || someSeen deck pool pairs (turned pairs key) (left - 1) (treeAt deck pool here .next)) ≡ someSeen deck pool pairs key left here
@@ -102,24 +97,13 @@ module _ (deck : Bytes) (pairs key₀ : Bool) (n : ℕ) (c : Cursor) (key : Bool
       go zero p = absurd (omega arith)
       go (suc m) p = let z : suc m - 1 ≡ m = omega arith in rw (z, l .told pool)
 
-  ends-more : (pool : Bytes) → 0 < left → nexts (λ d. treeAt deck pool d .next) (left - 1) (treeAt deck pool here .next) ≡ nexts (λ d. treeAt deck pool d .next) left here
-  unfolding nexts
-  ends-more pool h = go left h
-    where
-      go : (m : ℕ) → 0 < m → nexts (λ d. treeAt deck pool d .next) (m - 1) (treeAt deck pool here .next) ≡ nexts (λ d. treeAt deck pool d .next) m here
-      go zero p = absurd (omega arith)
-      go (suc m) p = let z : suc m - 1 ≡ m = omega arith in rw z
-
   pub one-less :
       {r : Looked} {t : Bool} → 0 < left → Looks deck here key r → r .modified ≡ false → t ≡ turned pairs key → Left deck pairs key₀ n c key left here
       → Left deck pairs key₀ n c t (left - 1) (r .next)
   one-less {r} {t} h l f e i =
       record {
         told = λ pool. rw (e, l .ends pool f) (rw f at (seen-more pool h l) ∙ i .told pool);
-        ends = λ pool. rw (l .ends pool f) (ends-more pool h ∙ i .ends pool);
-        onward = (let p = i .onward in let q = l .onward in omega arith);
-        within = l .within;
-        fewer = (let p = i .fewer in omega arith);
+        going = going-on deck n c left here h (λ pool. l .ends pool f) (l .onward) (l .within) (i .going);
       }
 
 module _ (deck : Bytes) (c : Cursor) (key₀ : Bool) (s : Start) (b : Starts deck c key₀ s) (key : Bool) (left : ℕ) (here : Cursor) (i : Left deck (s .pairs) (s .pairs) (s .kids) (s .next) key left here) where
@@ -128,28 +112,19 @@ module _ (deck : Bytes) (c : Cursor) (key₀ : Bool) (s : Start) (b : Starts dec
       record {
         told = λ pool. t ∙ sym (b .told pool ∙ ap (λ (x : Bool). s .modified || x) (sym (i .told pool) ∙ sym (rw t at (seen-more deck (s .pairs) (s .pairs) (s .kids) (s .next) key left here pool h l))) ∙ or-true (s .modified));
         ends = λ pool z. absurd (true≢false (sym t ∙ z));
-        onward = (let p = b .after .onward in let q = i .onward in let o = l .onward in omega arith);
+        onward = (let p = b .after .onward in let q = i .going .onward in let o = l .onward in omega arith);
         within = l .within;
       }
 
   pub look-done : left ≡ 0 → Looks deck c key₀ (record { modified = s .modified; next = here })
-  unfolding someSeen nexts
+  unfolding someSeen
   look-done z =
       record {
         told = λ pool. sym (b .told pool ∙ ap (λ (x : Bool). s .modified || x) (sym (rw z at (i .told pool))) ∙ or-false (s .modified));
-        ends = λ pool f. rw z at (i .ends pool) ∙ sym (b .ends pool f);
-        onward = (let p = b .after .onward in let q = i .onward in omega arith);
-        within = i .within;
+        ends = λ pool f. going-end deck (s .kids) (s .next) left here pool z (i .going) ∙ sym (b .ends pool f);
+        onward = (let p = b .after .onward in let q = i .going .onward in omega arith);
+        within = i .going .within;
       }
-
-  -- a child stands further on, so less of the deck is left for it
-  pub child-less : c .at ≤ length deck → 0 < left → length deck - here .at < length deck - c .at
-  child-less k h =
-      let p = i .onward in
-      let q = i .within in
-      let f = i .fewer in
-      let d = b .after .deeper (omega arith) in
-      omega arith
 
 -- ---- the file of a node
 

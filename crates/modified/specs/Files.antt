@@ -1,11 +1,12 @@
 -- The changed files of the nodes that stand one after another in a deck: each node's own, and then those of its children.
-use mathlib.Core.Path.{_≡_, refl, sym, ap, _∙_}
+use mathlib.Core.Path.{_≡_, refl, ap, _∙_}
 use Prim.Native.Nat.{ℕ, zero, suc, _+_, _<_, _≤_}
 use mathlib.Core.Bool.{Bool, true, false, not}
 use lib.Dec.{eqb}
-use mathlib.Core.List.{List, [], _∷_, _++_, append-assoc, append-nil}
+use mathlib.Core.List.{List, [], _∷_, _++_}
 use mathlib.Core.Option.{Option, none, some}
-use lib.ListN.{length, length-append}
+use lib.ListN.{length}
+use borrow.Author.Tests.{le-leb, lt-leb}
 use Rattle.definition.specs.Base.{Bytes, if_then_else_}
 use Rattle.definition.specs.Tree.{Source, Node, kept}
 use Rattle.definition.specs.Deck.{fileOf, sourceOf}
@@ -16,6 +17,7 @@ use Rattle.definition.specs.declared.File.{File}
 use Rattle.definition.specs.declared.File.the-variants.{Absent, Id}
 use Rattle.deck.specs.Kids.{twice}
 use Rattle.node.specs.declared.Origin.{Origin}
+use Rattle.node.specs.Fuel.{nexts}
 use Rattle.node.specs.Total.{keptOf, originOf, itemsFrom, pairsFrom, treeAt, treesFrom, treesOf}
 use Rattle.spot.specs.declared.Body.{Body}
 use Rattle.spot.specs.declared.Body.the-variants.{Null, Scalar, Alias, Sequence, Mapping}
@@ -23,7 +25,9 @@ use Rattle.spot.specs.declared.Spot.{Spot}
 use Rattle.spot.specs.Spot.{spotAt, kindOf, nodeIn, tree-value}
 use Rattle.atoms.specs.Atoms.{on}
 use Rattle.choices.specs.Choices.{includedIn}
-use Rattle.modified.specs.Local.{kidsIn}
+use Rattle.modified.specs.declared.Own.{Own}
+use Rattle.modified.specs.declared.Counted.{Counted}
+use Rattle.modified.specs.Local.{kidsIn, After}
 
 -- ---- a node's own file
 
@@ -147,6 +151,38 @@ module _ (deck pool : Bytes) where
   unfolding fileAt
   changed-at c k = rw (tree-value deck pool c k) (changed-node (spotAt deck c))
 
+  -- the changed files of n documents at most, up to the deck's end
+  unfoldable pub changedUpTo : ℕ → Cursor → List Written
+  changedUpTo n c = changed (boundariesAll (treesFrom deck pool n c))
+
+  pub changed-end : (n : ℕ) (c : Cursor) → length deck ≤ c .at → changedUpTo n c ≡ []
+  unfolding changedUpTo changed boundariesAll treesFrom
+  changed-end zero c h = refl
+  changed-end (suc n) c h = rw (le-leb _ _ h)
+
+  pub changed-none : (c : Cursor) → changedUpTo 0 c ≡ []
+  unfolding changedUpTo changed boundariesAll treesFrom
+  changed-none c = refl
+
+  pub changed-more : (n : ℕ) (c : Cursor) → c .at < length deck → changedUpTo (suc n) c ≡ changed (boundaries (treeAt deck pool c .value)) ++ changedUpTo n (treeAt deck pool c .next)
+  unfolding changedUpTo boundariesAll treesFrom
+  changed-more n c h = rw (lt-leb _ _ h) (changed-append (boundaries (treeAt deck pool c .value)) _)
+
+  pub changed-all : changedUpTo (length deck) (record { at = 0 }) ≡ changed (boundariesAll (treesOf deck pool))
+  unfolding changedUpTo treesOf
+  changed-all = refl
+
+-- ---- how many
+
+unfoldable pub tally : File → ℕ
+tally Absent = 0
+tally (Id i) = 1
+
+pub entry-length : (f : File) (n : Node) → length (entry f n) ≡ tally f
+unfolding entry tally
+entry-length Absent n = refl
+entry-length (Id i) n = refl
+
 -- ---- what is promised, with any pool
 
 -- a file if the node at a cursor changed
@@ -156,3 +192,22 @@ pub record IfChanged (deck : Bytes) (c : Cursor) (f r : File) : Type 0 where
 -- the id of the file that the node at a cursor is, if it is one and changed
 pub record Files (deck : Bytes) (c : Cursor) (r : File) : Type 0 where
   pub told : (pool : Bytes) → r ≡ fileAt deck pool c
+
+-- the changed files at a node, and the children that are left to look at
+pub record Owns (deck : Bytes) (c : Cursor) (r : Own) : Type 0 where
+  pub told : (pool : Bytes) → length (changed (boundaries (treeAt deck pool c .value))) ≡ r .count + length (changedFrom deck pool (r .kids) (r .next))
+  pub ends : (pool : Bytes) → treeAt deck pool c .next ≡ nexts (λ d. treeAt deck pool d .next) (r .kids) (r .next)
+  pub after : After deck c (r .kids) (r .next)
+  pub few : c .at + r .count ≤ r .next .at
+
+-- the changed files at and below a node, and where it ends; they are no more than its bytes
+pub record Counts (deck : Bytes) (c : Cursor) (r : Counted) : Type 0 where
+  pub told : (pool : Bytes) → r .count ≡ length (changed (boundaries (treeAt deck pool c .value)))
+  pub ends : (pool : Bytes) → r .next ≡ treeAt deck pool c .next
+  pub few : c .at + r .count ≤ r .next .at
+  pub within : r .next .at ≤ length deck
+
+-- the changed files of a deck
+pub record CountsAll (deck : Bytes) (n : ℕ) : Type 0 where
+  pub told : (pool : Bytes) → n ≡ length (changed (boundariesAll (treesOf deck pool)))
+  pub few : n ≤ length deck

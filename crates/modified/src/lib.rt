@@ -14,7 +14,7 @@ ghost use Rattle.spot.specs.Good.{countIn};
 ghost use Rattle.spot.specs.Spot.{spotAt};
 ghost use Rattle.choices.specs.Choices.{includedIn};
 ghost use Rattle.modified.specs.Local.{pairsIn, kidsIn, turned, Starts, Looks, Changed};
-ghost use Rattle.modified.specs.Files.{fileNamed, IfChanged, Files};
+ghost use Rattle.modified.specs.Files.{fileNamed, IfChanged, Files, tally, Owns, Counts, CountsAll};
 
 // A node's own answer, and the children that are left to look at: pairs or items, how many nodes, and where the first one stands.
 struct Start {
@@ -28,6 +28,19 @@ struct Start {
 struct Looked {
     modified: bool,
     next: Cursor,
+}
+
+// The changed files at a node, and the children that are left to look at.
+struct Own {
+    count: usize,
+    kids: usize,
+    next: Cursor,
+}
+
+// How many changed files stand at and below a node, and where it ends.
+pub struct Counted {
+    pub count: usize,
+    pub next: Cursor,
 }
 
 fn is_mapping(body: Body) -> bool
@@ -190,4 +203,66 @@ pub fn file_at(deck: &[u8], c: Cursor) -> File
     let x = spot::spot_at(deck, c);
     let lead = x.lead;
     file_of(deck, c, lead.origin)
+}
+
+fn tally_of(file: File) -> usize
+    ensures { λ r. ⌜ r ≡ tally file ⌝ }
+{
+    match file {
+        File::Absent => 0,
+        File::Id(_) => 1,
+    }
+}
+
+// The changed files at a node.
+fn count_own(deck: &[u8], c: Cursor) -> Own
+    requires { ⌜ (c .at ≤ length (now deck)) × (length (now deck) ≤ 65536) ⌝ }
+    ensures { λ r. ⌜ Owns (now (deck .entry)) c r ⌝ }
+{
+    let x = spot::spot_at(deck, c);
+    let lead = x.lead;
+    let file = file_of(deck, c, lead.origin);
+    let count = tally_of(file);
+    let body = x.body;
+    let kids = kids(body);
+    let next = x.next;
+    Own { count, kids, next }
+}
+
+// How many changed files stand at and below a node.
+pub fn count_changed(deck: &[u8], c: Cursor) -> Counted
+    requires { ⌜ (c .at ≤ length (now deck)) × (length (now deck) ≤ 65536) ⌝ }
+    ensures { λ r. ⌜ Counts (now (deck .entry)) c r ⌝ }
+{
+    let own = count_own(deck, c);
+    let mut count = own.count;
+    let mut here = own.next;
+    let mut rest = own.kids;
+    while rest > 0 {
+        let child = count_changed(deck, here);
+        count += child.count;
+        here = child.next;
+        rest -= 1;
+    }
+    Counted { count, next: here }
+}
+
+// How many changed files a deck has.
+pub fn count_all(deck: &[u8]) -> usize
+    requires { ⌜ length (now deck) ≤ 65536 ⌝ }
+    ensures { λ r. ⌜ CountsAll (now (deck .entry)) r ⌝ }
+{
+    let mut count: usize = 0;
+    let mut here = Cursor { at: 0 };
+    let mut left = deck.len();
+    while left > 0 {
+        if deck.len() <= here.at {
+            return count;
+        }
+        let below = count_changed(deck, here);
+        count += below.count;
+        here = below.next;
+        left -= 1;
+    }
+    count
 }

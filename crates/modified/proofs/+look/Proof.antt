@@ -1,14 +1,11 @@
+-- `modified::look` meets its contract.
 mod Base
 mod Look
-use Prim.Native.Nat.{ℕ, _<_}
 use Rattle.modified.proofs.look.Reads as look
-use Rattle.modified.proofs.look.Kinds as look-kinds
 use Rattle.modified.proofs.+look.Lts-look as look-lts
-use Rattle.modified.proofs.begin.Reads as begin-reads
-use Rattle.modified.proofs.turn.Reads as turn-reads
 use Rattle.modified.proofs.+look.{statement}
 use Rattle.modified.proofs.+look.Tie.{close}
-use Rattle.modified.proofs.+look.Proof.Base.{μ-look, look-at, look-below, look-claims}
+use Rattle.modified.proofs.+look.Proof.Base.{μ-look, look-at, look-claims}
 use Rattle.modified.proofs.+look.Proof.Look.{look-Inv-loop, look-μ-loop, look-begin-requires, look-loop-holds, look-look-requires, look-returns, look-turn-requires, look-sub-left, look-loop-less, look-loop-again, look-returns-2}
 
 pub +look-spec : {M : Type 1} → statement M

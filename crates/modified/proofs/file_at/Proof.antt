@@ -9,15 +9,12 @@ use Rattle.modified.proofs.file_at.Lts as lts
 use Rattle.modified.proofs.file_of.Reads as file-of-reads
 use Rattle.spot.proofs.spot_at.Reads as spot-at-reads
 
--- src/lib.rt:191:9
 spot-at-requires : tie.Need-spot-at-requires
 spot-at-requires c κs = search needs
 
--- src/lib.rt:193:5
 file-of-requires : tie.Need-file-of-requires
 file-of-requires c κs = ((c .before .before .before .pre) .0, (c .before .before .before .pre) .1, ap (λ (x : Spot). x .lead .origin) (c .before .spot-at .ensures))
 
--- src/lib.rt:187:1
 returns : tie.Need-returns
 returns c = search needs
 

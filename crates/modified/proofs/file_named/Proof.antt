@@ -7,16 +7,13 @@ use Rattle.modified.proofs.file_named.Reads as reads
 use Rattle.modified.proofs.file_named.Lts as lts
 use Rattle.choices.proofs.is_included.Reads as is-included-reads
 
--- src/lib.rt:156:8
 is-included-requires : tie.Need-is-included-requires
 is-included-requires c κs = search needs
 
--- src/lib.rt:158:9
 returns : tie.Need-returns
 unfolding fileNamed
 returns c = rw (← c .before .before .is-included .ensures, c .before .if1 .taken)
 
--- src/lib.rt:153:1
 returns-2 : tie.Need-returns-2
 unfolding fileNamed
 returns-2 c = rw (← c .before .is-included .ensures, c .if1 .left)

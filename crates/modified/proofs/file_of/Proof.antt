@@ -8,27 +8,21 @@ use Rattle.modified.proofs.file_of.Lts as lts
 use Rattle.modified.proofs.file_named.Reads as file-named-reads
 use Rattle.modified.proofs.if_changed.Reads as if-changed-reads
 
--- src/lib.rt:179:9
 file-named-requires : tie.Need-file-named-requires
 file-named-requires c κs = search needs
 
--- src/lib.rt:181:25
 enum-told : tie.Need-enum-told
 enum-told c = search needs
 
--- src/lib.rt:182:24
 enum-told-2 : tie.Need-enum-told-2
 enum-told-2 c = search needs
 
--- src/lib.rt:182:24
 if-changed-requires : tie.Need-if-changed-requires
 if-changed-requires c κs = search needs
 
--- src/lib.rt:175:1
 returns : tie.Need-returns
 returns c = file-absent (c .before .before .before .before .args .deck .now) (c .before .before .before .before .args .c) ((c .before .before .before .before .pre) .0) (c .before .before .before .before .args .origin) ((c .before .before .before .before .pre) .2) (c .before .before .file-named .ensures) (c .enum-told .given .1)
 
--- src/lib.rt:175:1
 returns-2 : tie.Need-returns-2
 returns-2 c = file-changed (c .before .before .before .before .before .args .deck .now) (c .before .before .before .before .before .args .c) ((c .before .before .before .before .before .pre) .0) (c .before .before .before .before .before .args .origin) ((c .before .before .before .before .before .pre) .2) (c .before .before .before .file-named .ensures) (c .if-changed .ensures)
 

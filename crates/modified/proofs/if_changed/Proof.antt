@@ -6,15 +6,12 @@ use Rattle.modified.proofs.if_changed.Reads as reads
 use Rattle.modified.proofs.if_changed.Lts as lts
 use Rattle.modified.proofs.local_modified.Reads as local-modified-reads
 
--- src/lib.rt:168:8
 local-modified-requires : tie.Need-local-modified-requires
 local-modified-requires c κs = search needs
 
--- src/lib.rt:169:9
 returns : tie.Need-returns
 returns c = record { told = λ pool. rw (← (c .before .local-modified .ensures .told pool), c .if1 .taken) }
 
--- src/lib.rt:164:1
 returns-2 : tie.Need-returns-2
 returns-2 c = record { told = λ pool. rw (← (c .before .local-modified .ensures .told pool), c .if1 .left) }
 

@@ -6,47 +6,37 @@ use Rattle.modified.proofs.is_mapping.Tie as tie
 use Rattle.modified.proofs.is_mapping.Reads as reads
 use Rattle.modified.proofs.is_mapping.Lts as lts
 
--- src/lib.rt:37:23
 enum-told : tie.Need-enum-told
 enum-told c = search needs
 
--- src/lib.rt:38:28
 enum-told-2 : tie.Need-enum-told-2
 enum-told-2 c = search needs
 
--- src/lib.rt:39:27
 enum-told-3 : tie.Need-enum-told-3
 enum-told-3 c = search needs
 
--- src/lib.rt:40:30
 enum-told-4 : tie.Need-enum-told-4
 enum-told-4 c = search needs
 
--- src/lib.rt:41:29
 enum-told-5 : tie.Need-enum-told-5
 enum-told-5 c = search needs
 
--- src/lib.rt:33:1
 returns : tie.Need-returns
 unfolding pairsIn
 returns c = rw (c .enum-told .given .1)
 
--- src/lib.rt:33:1
 returns-2 : tie.Need-returns-2
 unfolding pairsIn
 returns-2 c = rw (c .enum-told2 .given .1)
 
--- src/lib.rt:33:1
 returns-3 : tie.Need-returns-3
 unfolding pairsIn
 returns-3 c = rw (c .enum-told3 .given .1)
 
--- src/lib.rt:33:1
 returns-4 : tie.Need-returns-4
 unfolding pairsIn
 returns-4 c = rw (c .enum-told4 .given .1)
 
--- src/lib.rt:33:1
 returns-5 : tie.Need-returns-5
 unfolding pairsIn
 returns-5 c = rw (c .enum-told5 .given .1)

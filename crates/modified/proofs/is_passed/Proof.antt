@@ -6,15 +6,12 @@ use Rattle.modified.proofs.is_passed.Reads as reads
 use Rattle.modified.proofs.is_passed.Lts as lts
 use Rattle.choices.proofs.is_included.Reads as is-included-reads
 
--- src/lib.rt:74:9
 returns : tie.Need-returns
 returns c = rw (c .if1 .taken)
 
--- src/lib.rt:76:5
 is-included-requires : tie.Need-is-included-requires
 is-included-requires c κs = search needs
 
--- src/lib.rt:70:1
 returns-2 : tie.Need-returns-2
 returns-2 c = rw (c .before .if1 .left) (c .is-included .ensures)
 

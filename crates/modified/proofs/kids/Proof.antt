@@ -9,52 +9,41 @@ use Rattle.modified.proofs.kids.Tie as tie
 use Rattle.modified.proofs.kids.Reads as reads
 use Rattle.modified.proofs.kids.Lts as lts
 
--- src/lib.rt:51:23
 enum-told : tie.Need-enum-told
 enum-told c = search needs
 
--- src/lib.rt:52:28
 enum-told-2 : tie.Need-enum-told-2
 enum-told-2 c = search needs
 
--- src/lib.rt:53:27
 enum-told-3 : tie.Need-enum-told-3
 enum-told-3 c = search needs
 
--- src/lib.rt:54:24
 enum-known-body : tie.Need-enum-known-body
 enum-known-body c = search needs
 
--- src/lib.rt:55:23
 enum-known-body-2 : tie.Need-enum-known-body-2
 enum-known-body-2 c = search needs
 
--- src/lib.rt:55:29
 mul-result : tie.Need-mul-result
 unfolding countIn
 mul-result c = let e = c .before .before .before .before .pre in let z = rw (c .before .before .body2 .given .1) at e in omega (arith, z)
 
--- src/lib.rt:46:1
 returns : tie.Need-returns
 unfolding kidsIn
 returns c = rw (c .enum-told .given .1)
 
--- src/lib.rt:46:1
 returns-2 : tie.Need-returns-2
 unfolding kidsIn
 returns-2 c = rw (c .enum-told2 .given .1)
 
--- src/lib.rt:46:1
 returns-3 : tie.Need-returns-3
 unfolding kidsIn
 returns-3 c = rw (c .enum-told3 .given .1)
 
--- src/lib.rt:46:1
 returns-4 : tie.Need-returns-4
 unfolding kidsIn
 returns-4 c = rw (c .before .body .given .1)
 
--- src/lib.rt:46:1
 returns-5 : tie.Need-returns-5
 unfolding kidsIn
 returns-5 c = rw (c .before .before .body2 .given .1) (twice-is _)

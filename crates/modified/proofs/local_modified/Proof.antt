@@ -7,11 +7,9 @@ use Rattle.modified.proofs.local_modified.Reads as reads
 use Rattle.modified.proofs.local_modified.Lts as lts
 use Rattle.modified.proofs.look.Reads as look-reads
 
--- src/lib.rt:147:9
 look-requires : tie.Need-look-requires
 look-requires c κs = search needs
 
--- src/lib.rt:143:1
 returns : tie.Need-returns
 unfolding seen
 returns c = record { told = λ pool. c .look .ensures .told pool }

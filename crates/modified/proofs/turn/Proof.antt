@@ -5,12 +5,10 @@ use Rattle.modified.proofs.turn.Tie as tie
 use Rattle.modified.proofs.turn.Reads as reads
 use Rattle.modified.proofs.turn.Lts as lts
 
--- src/lib.rt:64:9
 returns : tie.Need-returns
 unfolding turned
 returns c = rw (c .if1 .taken)
 
--- src/lib.rt:60:1
 returns-2 : tie.Need-returns-2
 unfolding turned
 returns-2 c = rw (c .if1 .left)

@@ -1,3 +1,4 @@
+-- `modified::look`: what falls at each call of itself, the deck that is left, and what its callees claim.
 use Prim.Native.Nat.{ℕ, _<_, _-_}
 use lib.ListN.{length}
 use borrow.Fn.Kinds.{In}
