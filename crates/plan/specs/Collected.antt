@@ -27,6 +27,10 @@ use Rattle.plan.specs.Plan.{nowhere, front, early, onward, counted, plan
 
 -- ---- what the call does
 
+-- what it is lent
+abbrev pub lentWith : Bytes → Bytes → Bytes → List Change → Lent
+lentWith d p o l = record { deck = d; pool = p; output = o; list = l }
+
 -- the run that a plan asks for
 abbrev pub fillOf : Bytes → Bytes → Plan → Bytes → List Change → Filled
 fillOf d p plan o l = filled d p 0 (plan .stores) (started (plan .first) o l)

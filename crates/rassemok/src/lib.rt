@@ -3,6 +3,7 @@
 use answers::Answer;
 use answers::admit;
 use answers::refuse;
+use definition::Change;
 use definition::Cursor;
 use definition::NullStyle;
 use definition::Settings;
@@ -10,10 +11,11 @@ use judge::Verdict;
 ghost use mathlib.Core.Path.{_≡_};
 ghost use mathlib.Core.List.{[]};
 ghost use Rattle.definition.specs.Settings.{nullAs};
-ghost use Rattle.definition.specs.Calls.{outcome, emitRoundtrip, emitRoundtripWith, emitRoundtripAllWith, emitRoundtripDump, callLocalModified, tellModified};
+ghost use Rattle.definition.specs.Calls.{outcome, emitRoundtrip, emitRoundtripWith, emitRoundtripAllWith, emitRoundtripDump, callLocalModified, collectChangedIncludeChanges, tellModified};
 ghost use Rattle.agree.specs.Accepted.{Accepted};
 ghost use Rattle.told.specs.Outcome.{Small, lent};
 ghost use Rattle.answers.specs.Answer.{outcomeOf};
+ghost use Rattle.plan.specs.Collected.{lentWith};
 ghost use Rattle.rassemok.specs.Options.{nullStyleOf, isOn, settingsOf};
 
 // Settings, as numbers.
@@ -195,4 +197,23 @@ pub extern "C" fn rassemok_local_modified(deck: &[u8], pool: &[u8]) -> Answer
     ensures { λ r. ⌜ outcomeOf r [] [] ≡ outcome callLocalModified (lent (now (deck .entry)) (now (pool .entry)) []) ⌝ }
 {
     local_modified(deck, pool)
+}
+
+// Four calls, one after the other: what is decided before, the files and their entries, what is decided after, and zeros where there was no
+// room. No covered code can call it, since it is lent structs.
+#[no_mangle]
+pub extern "C" fn rassemok_collect_changed_include_changes(
+    deck: &[u8],
+    pool: &[u8],
+    out: &mut [u8],
+    list: &mut [Change],
+) -> Answer
+    ensures { λ r. ⌜ outcomeOf r (now (out .exit)) (now (list .exit))
+        ≡ outcome collectChangedIncludeChanges (lentWith (now (deck .entry)) (now (pool .entry)) (now (out .entry)) (now (list .entry))) ⌝ }
+{
+    let plan = plan::begin(deck, pool, out.len(), list.len());
+    let end = changes::fill_list(list, deck, pool, out, plan.first, plan.stores);
+    let last = plan::settle(out, plan, end, list.len());
+    changes::fill_list(list, deck, pool, out, last.first, last.stores);
+    last.answer
 }
