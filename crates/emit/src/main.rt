@@ -3,10 +3,9 @@ use libc::STDIN_FILENO;
 use libc::STDOUT_FILENO;
 
 fn main() {
-    // Four bytes of length, the longest deck, the longest pool, and one byte by which too much is seen.
-    let mut input = [0u8; 131077];
+    let mut input = frame::input();
     let n = io::read_full(STDIN_FILENO, &mut input);
-    let mut out = [0u8; 65536];
+    let mut out = frame::output();
     let len = frame::run(&input[..n], &mut out);
     io::write_all(STDOUT_FILENO, &out[..len]);
 }

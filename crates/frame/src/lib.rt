@@ -9,6 +9,19 @@ ghost use Rattle.definition.specs.Program.{decimal as digitsOf};
 ghost use Rattle.frame.specs.Front.{Adds, Shows, blank};
 ghost use Rattle.frame.specs.Cut.{deckLength};
 
+// What the program lends: four bytes of length, the longest deck, the longest pool, and one byte by which too much is seen.
+pub fn input() -> [u8; 131077]
+    ensures { λ r. ⌜ 131077 ≡ length r ⌝ }
+{
+    [0; 131077]
+}
+
+pub fn output() -> [u8; 65536]
+    ensures { λ r. ⌜ (r ≡ blank) × (65536 ≡ length r) ⌝ }
+{
+    [0; 65536]
+}
+
 fn put(out: &mut [u8], at: usize, b: u8) -> usize
     requires { ⌜ at + 1 ≤ length (now out) ⌝ }
     ensures { λ r. ⌜ Adds (b ∷ []) at (now (out .entry)) r (now (out .exit)) ⌝ }
