@@ -8,6 +8,7 @@ pub mod damage;
 pub mod deck;
 pub mod draws;
 pub mod events;
+pub mod example;
 pub mod extremes;
 pub mod fixed;
 pub mod judge;

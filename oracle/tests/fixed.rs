@@ -115,6 +115,14 @@ fn every_case_is_what_the_rust_answers() {
     );
 }
 
+/// The program samples reads the list from a file.
+#[test]
+fn the_file_is_the_list() {
+    let file = concat!(env!("CARGO_MANIFEST_DIR"), "/../crates/samples/data/cases");
+    let same = std::fs::read(file).expect(file) == fixed::encode(&fixed::list());
+    assert!(same, "oracle/fixed crates/samples/data/cases");
+}
+
 #[test]
 fn both_ways_to_hash_agree() {
     for length in 0..200 {
