@@ -23,7 +23,7 @@ use Rattle.definition.specs.declared.File.the-variants.{Absent, Id}
 use Rattle.pen.specs.declared.Writer.{Writer}
 use Rattle.pen.specs.Pen.{Pen, pen, unput, ended, ink}
 use Rattle.pen.specs.Shown.{fresh}
-use Rattle.scripts.specs.Keep.{Fit, ink-length, ink-fit}
+use Rattle.scripts.specs.Keep.{ink-length, ink-fit}
 use Rattle.modified.specs.Files as modified
 use Rattle.joints.specs.Entries.{nodeAt}
 use Rattle.layout.specs.Calm.{Calm, calm-further}

@@ -1,5 +1,5 @@
 -- What the scan finds: the next changed file, and after it the others.
-use mathlib.Core.Path.{_≡_, refl, sym, ap, subst, _∙_}
+use mathlib.Core.Path.{_≡_, refl, ap, subst, _∙_}
 use Prim.Native.Nat.{ℕ, zero, suc, _-_, _<_, _≤_}
 use native.Mathlib.Omega.{arith}
 use mathlib.Core.Bool.{Bool, true, false}
@@ -10,7 +10,7 @@ use lib.Dec.{eqb}
 use Rattle.definition.specs.Base.{Bytes, if_then_else_}
 use Rattle.definition.specs.Tree.{Source, Node, kept}
 use Rattle.definition.specs.Document.{emitFile}
-use Rattle.definition.specs.Change.{Boundary, Written, withId, ownBoundary, changed, localModified}
+use Rattle.definition.specs.Change.{Boundary, withId, ownBoundary, changed, localModified}
 use Rattle.definition.specs.declared.Cursor.{Cursor}
 use Rattle.definition.specs.declared.File.{File}
 use Rattle.definition.specs.declared.File.the-variants.{Absent, Id}

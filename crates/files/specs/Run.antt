@@ -4,20 +4,19 @@ use Prim.Native.Nat.{ℕ, zero, suc, _+_, _-_, _<_, _≤_}
 use native.Mathlib.Omega.{arith}
 use mathlib.Core.Bool.{Bool, true, false}
 use mathlib.Core.List.{List, [], _∷_, _++_, append-assoc}
-use lib.ListN.{length, take, drop, replicate, set, length-append, length-drop}
+use lib.ListN.{length, take, drop, replicate, length-append, length-drop}
 use lib.Seq.{length-take-le, take-append-seam, drop-append-seam, drop-drop}
 use lib.Dec.{eqb, leb}
 use borrow.Author.Tests.{leb-true, leb-false}
 use Rattle.definition.specs.Base.{Bytes, if_then_else_}
 use Rattle.definition.specs.Settings.{plainSettings}
-use Rattle.definition.specs.Tree.{Node}
 use Rattle.definition.specs.Document.{oneDocument, emitFile}
 use Rattle.definition.specs.Change.{Written, changed, collect}
 use Rattle.definition.specs.Deck.{got, readDeck}
 use Rattle.definition.specs.Calls.{noChange, over, entries, bytesOfAll}
 use Rattle.definition.specs.declared.Change.{Change}
 use Rattle.definition.specs.declared.Cursor.{Cursor}
-use Rattle.pen.specs.Pen.{Pen, pen, ink, ended}
+use Rattle.pen.specs.Pen.{Pen, pen}
 use Rattle.pen.specs.Shown.{fresh, Leaves, leaves}
 use Rattle.scripts.specs.Sound.{Formed}
 use Rattle.scripts.specs.Files.{FormedFiles, sound-file}
@@ -26,10 +25,9 @@ use Rattle.node.specs.Total.{treesOf}
 use Rattle.told.specs.Read.{files-read}
 use Rattle.joints.specs.Entries.{nodeAt}
 use Rattle.files.specs.declared.Walk.{Walk}
-use Rattle.files.specs.declared.Made.{Made}
 use Rattle.files.specs.declared.Found.{Found}
 use Rattle.files.specs.Scan.{filesAt, deck-files}
-use Rattle.files.specs.Files.{foundAt, filePen, Step, still, fileStep, isReady, stepOf, madeAt, outAfter}
+use Rattle.files.specs.Files.{foundAt, filePen, Step, still, fileStep, isReady, stepOf}
 use Rattle.files.specs.Step.{Ready, ready-is, is-ready, unready, step-unready, step-file}
 use Rattle.files.specs.Next.{Next, next-found}
 
@@ -51,6 +49,12 @@ runOf deck pool (suc n) w out =
 abbrev pub firstWalk : Walk
 firstWalk = record { at = 0; start = 0; zero = 0 }
 
+-- files laid behind what is written, `pre`, over the front of `rest`
+record Fitted (pre rest : Bytes) (ws : List Written) (r : Run) : Type 0 where
+  start : r .walk .start ≡ length pre + length (bytesOfAll ws)
+  out : r .out ≡ pre ++ over (bytesOfAll ws) rest
+  made : r .made ≡ entries (length pre) ws
+
 module _ (deck pool : Bytes) where
   -- ---- steps that make nothing
 
@@ -59,12 +63,12 @@ module _ (deck pool : Bytes) where
   run-still zero w out e = refl
   run-still (suc n) w out e = rw (step-unready deck pool out w e, run-still n w out e)
 
-  -- where entries are to be zeros, they are, and nothing is written
-  pub run-zeros : (n at start : ℕ) (out : Bytes) → runOf deck pool n (record { at = at; start = start; zero = 1 }) out .made ≡ replicate n noChange
-  run-zeros n at start out = ap (λ (r : Run). r .made) (run-still n _ out (unready _ _ _ _ (λ r. let z = r .on in absurd (omega (arith, z)))))
+  -- a walk for zeros, and one past the output's end
+  pub run-zeros : (n : ℕ) (w : Walk) (out : Bytes) → (w .zero ≡ 0 → ⊥) → runOf deck pool n w out ≡ record { walk = w; out = out; made = replicate n noChange }
+  run-zeros n w out h = run-still n w out (unready _ _ _ w (λ r. h (r .on)))
 
-  pub run-zeros-out : (n at start : ℕ) (out : Bytes) → runOf deck pool n (record { at = at; start = start; zero = 1 }) out .out ≡ out
-  run-zeros-out n at start out = ap (λ (r : Run). r .out) (run-still n _ out (unready _ _ _ _ (λ r. let z = r .on in absurd (omega (arith, z)))))
+  pub run-past : (n : ℕ) (w : Walk) (out : Bytes) → length out < w .start → runOf deck pool n w out ≡ record { walk = w; out = out; made = replicate n noChange }
+  run-past n w out h = run-still n w out (unready _ _ _ w (λ r. let z = r .room in absurd (omega (arith, z, h))))
 
   -- ---- every step keeps the output's length
 
@@ -178,11 +182,6 @@ module _ (deck pool : Bytes) where
         rest (w ∷ l) = l
 
     -- they fit
-    pub record Fitted (pre rest : Bytes) (ws : List Written) (r : Run) : Type 0 where
-      pub start : r .walk .start ≡ length pre + length (bytesOfAll ws)
-      pub out : r .out ≡ pre ++ over (bytesOfAll ws) rest
-      pub made : r .made ≡ entries (length pre) ws
-
     one-fitted :
         (pre rest : Bytes) (x : Written) (ws : List Written) (r : Run) (i : ℕ) → i ≡ x .id → Fitted (pre ++ x .bytes) (drop (length (x .bytes)) rest) ws r
         → Fitted pre rest (x ∷ ws) (record { walk = r .walk; out = r .out; made = record { id = i; start = length pre; length = length (x .bytes) } ∷ r .made })
@@ -214,9 +213,6 @@ module _ (deck pool : Bytes) where
         rw (step-fits c pre rest t k o (s .next) (s .leaves h rest) (omega (arith, b, l))) (one-fitted pre rest x ws _ _ (s .id) i)
 
     -- or they do not
-    past-still : (n : ℕ) (w : Walk) (out : Bytes) → length out < w .start → runOf deck pool n w out .walk ≡ w
-    past-still n w out h = ap (λ (r : Run). r .walk) (run-still n w out (unready _ _ _ w (λ r. let z = r .room in absurd (omega (arith, z, h)))))
-
     run-next : (n : ℕ) (w : Walk) (out : Bytes) (s : Step) → stepOf deck pool out w ≡ s → runOf deck pool (suc n) w out .walk ≡ runOf deck pool n (s .made .next) (s .out) .walk
     unfolding runOf
     run-next n w out s e = ap (λ (x : Step). runOf deck pool n (x .made .next) (x .out) .walk) e
@@ -258,28 +254,32 @@ module _ (deck pool : Bytes) where
             let w = stepOf deck pool (pre ++ rest) (walkAt c pre) .made .next in
             let j : length (pre ++ rest) < w .start = step-over c pre rest t k o (s .next) (s .leaves h rest) f in
             let z : length (stepOf deck pool (pre ++ rest) (walkAt c pre) .out) < w .start = rw (step-length (walkAt c pre) (pre ++ rest)) j in
-            rw (run-next (length ws) (walkAt c pre) (pre ++ rest) _ refl ∙ past-still (length ws) w (stepOf deck pool (pre ++ rest) (walkAt c pre) .out) z) j
+            rw (run-next (length ws) (walkAt c pre) (pre ++ rest) _ refl ∙ ap (λ (r : Run). r .walk) (run-past (length ws) w (stepOf deck pool (pre ++ rest) (walkAt c pre) .out) z)) j
 
     -- ---- a deck that is read
 
     module _ (out : Bytes) (room : length out ≤ 1048576) (end : Cursor) (read : readDeck deck pool ≡ got (treesOf deck pool) end) where
-      abbrev pub files : List Written
-      files = collect (treesOf deck pool)
+      abbrev run : Run
+      run = runOf deck pool (length (collect (treesOf deck pool))) firstWalk out
 
-      abbrev pub run : Run
-      run = runOf deck pool (length files) firstWalk out
-
-      these : changed (filesAt deck pool (record { at = 0 })) ≡ files
+      these : changed (filesAt deck pool (record { at = 0 })) ≡ collect (treesOf deck pool)
       unfolding collect
       these = ap changed (sym (deck-files deck pool deck-small))
 
       formed : FormedFiles (filesAt deck pool (record { at = 0 }))
       formed = subst FormedFiles (deck-files deck pool deck-small) (files-read deck pool (treesOf deck pool) end read)
 
-      -- where the files have room: their entries, their bytes over the front of the output, and the walk at their end
-      pub files-fit : length (bytesOfAll files) ≤ length out → Fitted [] out files run
-      files-fit h = run-fits files (record { at = 0 }) [] out (omega arith) room formed these h
+      -- where the files have room: the walk ends at their end, their bytes lie over the front of the output, the entries are theirs
+      pub files-fit :
+          length (bytesOfAll (collect (treesOf deck pool))) ≤ length out
+          → (run .walk .start ≡ length (bytesOfAll (collect (treesOf deck pool))))
+          × (run .out ≡ over (bytesOfAll (collect (treesOf deck pool))) out)
+          × (run .made ≡ entries 0 (collect (treesOf deck pool)))
+      files-fit h =
+          let f = run-fits (collect (treesOf deck pool)) (record { at = 0 }) [] out (omega arith) room formed these h in
+          let z : 0 + length (bytesOfAll (collect (treesOf deck pool))) ≡ length (bytesOfAll (collect (treesOf deck pool))) = omega arith in
+          (f .start ∙ z, f .out, f .made)
 
       -- where they have not, the walk ends past the output
-      pub files-over : length out < length (bytesOfAll files) → length out < run .walk .start
-      files-over h = run-over files (record { at = 0 }) [] out (omega arith) room formed these h
+      pub files-over : length out < length (bytesOfAll (collect (treesOf deck pool))) → length out < run .walk .start
+      files-over h = run-over (collect (treesOf deck pool)) (record { at = 0 }) [] out (omega arith) room formed these h

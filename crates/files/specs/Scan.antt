@@ -1,16 +1,15 @@
 -- A deck is its trees in preorder: the heads from a cursor on, in the order they stand, have the includes of the trees there, in tree order.
 use mathlib.Core.Path.{_≡_, refl, sym, ap, _∙_}
-use Prim.Native.Nat.{ℕ, zero, suc, _+_, _-_, _<_, _≤_, min}
-use native.Mathlib.Nat.{min-eq-left, min-eq-right}
+use Prim.Native.Nat.{ℕ, zero, suc, _+_, _-_, _<_, _≤_}
 use native.Mathlib.Omega.{arith}
 use mathlib.Core.Bool.{Bool, true, false, not, true≢false}
 use mathlib.Core.List.{List, [], _∷_, _++_, append-assoc}
 use lib.ListN.{length, List·getD-eq-default}
-use lib.Dec.{eqb, leb, ltb}
-use borrow.Author.Tests.{ltb-true, ltb-false, leb-true, leb-false, eqb-true, eqb-false, lt-leb}
+use lib.Dec.{leb, ltb}
+use borrow.Author.Tests.{ltb-true, ltb-false, leb-true, lt-leb}
 use Rattle.definition.specs.Base.{Bytes, if_then_else_, within}
 use Rattle.definition.specs.Records.{byteAt, kindAt, recordAt, sizeOf, past}
-use Rattle.definition.specs.Tree.{Node, kept}
+use Rattle.definition.specs.Tree.{kept}
 use Rattle.definition.specs.Deck.{isNode}
 use Rattle.definition.specs.Change.{Boundary, ownBoundary, boundaries, boundariesIn, boundariesItems, boundariesPairs, boundariesAll}
 use Rattle.definition.specs.declared.Cursor.{Cursor}
@@ -22,8 +21,7 @@ use Rattle.node.specs.Total.{keptOf, originOf, itemsFrom, pairsFrom, treeAt, tr
 use Rattle.node.specs.Fuel.{nexts, tree-moves, tree-next, head-at-onward, next-within, own-is}
 use Rattle.spot.specs.declared.Body.{Body}
 use Rattle.spot.specs.declared.Body.the-variants as body
-use Rattle.spot.specs.declared.Spot.{Spot}
-use Rattle.spot.specs.Spot.{bodyOf, spotOf, spotAt, kindOf, endOf, nodeIn, tree-value, tree-end}
+use Rattle.spot.specs.Spot.{spotOf, spotAt, kindOf, endOf, nodeIn, tree-value, tree-end}
 use Rattle.spot.specs.Good.{isGroup, good-at}
 use Rattle.joints.specs.Entries.{nodeAt, nextAt}
 

@@ -1,14 +1,13 @@
 -- Laws of one step: when it makes nothing, and when a file.
-use mathlib.Core.Path.{_≡_, refl, sym, ap, _∙_}
-use Prim.Native.Nat.{ℕ, _+_, _-_, _<_, _≤_}
-use native.Mathlib.Omega.{arith}
+use mathlib.Core.Path.{_≡_, refl, sym}
+use Prim.Native.Nat.{ℕ, _-_, _≤_}
 use mathlib.Core.Bool.{Bool, true, false, true≢false, _||_}
 use lib.ListN.{length}
 use lib.Dec.{eqb, ltb}
-use borrow.Author.Tests.{le-ltb, eq-eqb, ne-eqb, ltb-false, eqb-true, eqb-false}
+use borrow.Author.Tests.{le-ltb, eq-eqb, ne-eqb, ltb-false, eqb-true}
 use Rattle.definition.specs.Base.{Bytes, if_then_else_}
 use Rattle.files.specs.declared.Walk.{Walk}
-use Rattle.files.specs.Files.{foundAt, Step, still, fileStep, isReady, stepOf}
+use Rattle.files.specs.Files.{foundAt, still, fileStep, isReady, stepOf}
 
 -- ---- within the limits
 

@@ -1,4 +1,5 @@
 -- `files::next_file` meets its contract.
+use native.Mathlib.Omega.{arith}
 use Rattle.files.proofs.Laws.{ready-by, unready-stayed, none-stayed, file-stepped}
 use borrow.Author.Needs.{needs}
 use Rattle.files.proofs.next_file.Statement.{statement}
@@ -20,7 +21,7 @@ returns : tie.Need-returns
 returns c = unready-stayed (c .before .before .before .before .before .before .args .deck .now) (c .before .before .before .before .before .before .args .pool .now) (c .before .before .before .before .before .before .args .out .now) (c .before .before .before .before .before .before .args .w) _ _ (c .before .before .is-ready .ensures) (c .before .if1 .taken) (c .stay .ensures)
 
 find-requires : tie.Need-find-requires
-find-requires c κs = let r = ready-by (c .before .is-ready .ensures) (c .if1 .left) in (r .here, r .deck-small)
+find-requires c κs = let r = ready-by (c .before .is-ready .ensures) (c .if1 .left) in let h = r .here in (omega (arith, h), r .deck-small)
 
 stay-requires-2 : tie.Need-stay-requires-2
 stay-requires-2 c κs = search needs
