@@ -19,7 +19,7 @@ use Rattle.told.specs.Outcome.{changed-judged, changed-told}
 use Rattle.answers.specs.Answer.{outcomeOf, refusal, refusal-is}
 use Rattle.answers.specs.Admitted.{Refuses, Admits, Says, admitOf, said}
 use Rattle.files.specs.declared.Walk.{Walk}
-use Rattle.files.specs.Run.{Run, runOf, run-zeros, run-zeros-out, run-length, Fitted, files-fit, files-over}
+use Rattle.files.specs.Run.{Run, runOf, run-zeros, run-length, files-fit, files-over}
 use Rattle.files.specs.Stored.{stored, length-entries, stored-entries, stored-zeros}
 use Rattle.changes.specs.Filled.{Filled, started, filled, filled-is}
 use Rattle.plan.specs.declared.Plan.{Plan}
@@ -85,7 +85,7 @@ module _ (x : Lent) where
   unfolding nowhere
   zeroed o l e =
       filled-is d p 0 n (record { at = 0; start = 0; zero = 1 }) o l
-      ∙ rw (run-zeros d p n 0 0 o, run-zeros-out d p n 0 0 o, ← e, stored-zeros l)
+      ∙ rw (run-zeros d p n (record { at = 0; start = 0; zero = 1 }) o (λ z. absurd (omega (arith, z))), ← e, stored-zeros l)
 
   late :
       (plan : Plan) (s : Filled) → isLate (length (s .out)) plan (s .walk) ≡ true → length (s .list) ≡ n
@@ -131,10 +131,10 @@ module _ (x : Lent) where
     unfolding front onward answerAfter outcomeOf handed answered
     fits h k =
         let f = files-fit d p (g .small .deck) (g .small .pool) (x .output) (g .small .output) (g .accepted .end) (g .accepted .read) k in
-        let z : run .walk .start ≡ length (bytesOfAll ws) = let q = f .start in omega (arith, q) in
+        let z : run .walk .start ≡ length (bytesOfAll ws) = f .0 in
         let y : ltb (length (x .output)) (run .walk .start) ≡ false = le-ltb (length (x .output)) (run .walk .start) (rw z k) in
         timely (onward (length ws)) end (late-is ∙ y)
-        ∙ rw (out-long, y, z, f .out, f .made, stored-entries 0 ws (x .list) h) (sym (told-so ∙ rw (length-entries 0 ws, le-ltb _ _ h, le-ltb _ _ k)))
+        ∙ rw (out-long, y, z, f .1, f .2, stored-entries 0 ws (x .list) h) (sym (told-so ∙ rw (length-entries 0 ws, le-ltb _ _ h, le-ltb _ _ k)))
 
     overfull : length ws ≤ n → length (x .output) < length (bytesOfAll ws) → finished d p n (onward (length ws)) end ≡ writeChanged x
     unfolding front onward answerAfter outcomeOf refusal handed noRoom
