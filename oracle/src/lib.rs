@@ -10,6 +10,7 @@ pub mod draws;
 pub mod events;
 pub mod extremes;
 pub mod fixed;
+pub mod included;
 pub mod judge;
 pub mod kinds;
 pub mod leaves;

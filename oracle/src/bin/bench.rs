@@ -40,7 +40,10 @@ fn main() {
         "judging"
     );
     let wanted = words.get(1).map_or("", String::as_str);
-    for subject in subjects().iter().filter(|subject| subject.name.contains(wanted)) {
+    for subject in subjects()
+        .iter()
+        .filter(|subject| subject.name.contains(wanted))
+    {
         measure(subject, Duration::from_secs_f64(seconds));
     }
     println!("times in microseconds; (a) the archive's call by the Rust's emission of a tree that is built already;");
