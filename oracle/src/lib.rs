@@ -14,6 +14,7 @@ pub mod included;
 pub mod judge;
 pub mod kinds;
 pub mod leaves;
+pub mod property;
 pub mod random;
 pub mod reading;
 pub mod recipes;
