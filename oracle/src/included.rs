@@ -157,8 +157,9 @@ fn small(name: &str, deck: Vec<u8>) -> Extreme {
     made(name, deck, b"a".to_vec())
 }
 
-/// The most changed includes that fit, and the most includes. A changed include has a mark of its own (21 bytes at least), or it has a key that is
-/// a changed include (19 bytes at least), and of these no more than 63 share a mark. So 3,443 is the most: a list of 4,096 is never too short.
+/// Nearly as many changed includes as a deck holds, and as many includes as it holds. A changed include takes 21 bytes with a mark of its own; where
+/// its key is a changed include it needs none, and takes 19: record, mapping and a null. So there are never more than 3,449, and a list of 4,096
+/// entries is never too short.
 fn side_by_side() -> Vec<Extreme> {
     let key_tower = |depth| {
         let mut nest = Nest::new(Way::Key, depth);
@@ -176,7 +177,7 @@ fn side_by_side() -> Vec<Extreme> {
     marked_root.extend(collection(0x23, false, 4_368));
     marked_root.extend(unchanged.repeat(4_368));
     vec![
-        small("3,443 changed includes, the most that fit", most),
+        small("3,443 changed includes, most of them keys", most),
         small("3,120 documents, each a changed include", documents),
         small("3,120 changed includes, each with an id of its own", ids),
         small(

@@ -2,6 +2,7 @@
 //! entries, and as many includes as fit. Each is counted over many cases and must be met.
 
 use oracle::calls::{self, Call, MOST_DECK, MOST_LIST, MOST_OUTPUT};
+use oracle::deck::Deck;
 use oracle::included;
 use oracle::judge;
 use oracle::random::{lending, Rng};
@@ -218,7 +219,7 @@ fn at_most(name: &str) -> (usize, usize) {
 #[test]
 fn the_limits_are_reached() {
     let answers = [
-        ("3,443 changed includes, the most that fit", (0, 3_443)),
+        ("3,443 changed includes, most of them keys", (0, 3_443)),
         ("3,120 documents, each a changed include", (0, 3_120)),
         (
             "3,120 changed includes, each with an id of its own",
@@ -262,10 +263,23 @@ fn the_limits_are_reached() {
     }
 }
 
-/// No deck has more changed includes than the largest list has entries: each takes 19 bytes or more.
+/// A changed include takes 19 bytes or more: an include record, a mapping record and a null, where a key's mark is enough. None of the trees has
+/// more of them than that allows, and a deck has never more than the largest list has entries.
 #[test]
 fn the_largest_list_is_never_too_short() {
+    assert_eq!(MOST_DECK / 19, 3_449);
     assert!(MOST_DECK / 19 < MOST_LIST);
+    for seed in 0..20_000 {
+        takes_19_bytes_each(&included::deck(&mut Rng::new(seed)));
+    }
+    for extreme in included::limits() {
+        takes_19_bytes_each(&extreme.deck);
+    }
+}
+
+fn takes_19_bytes_each(deck: &Deck) {
+    let written = calls::unbounded(&COLLECT, &deck.deck, &deck.pool).unwrap_or_default();
+    assert!(19 * written.changes.len() <= deck.deck.len());
 }
 
 /// A list of one entry more than the limit is refused with 2, also where it would not be needed.

@@ -173,7 +173,7 @@ fn about_changes() -> Vec<Subject> {
         ),
         (
             "3,443, most of them keys",
-            "3,443 changed includes, the most that fit",
+            "3,443 changed includes, most of them keys",
         ),
         ("4,369, none changed", "4,369 includes, none changed"),
         (
