@@ -2,7 +2,9 @@
 //! every byte of output and list is compared, also those that must stay as they were. The last line is `N compared, M differ`.
 
 use oracle::archive;
-use oracle::calls::{self, Call, Lent, Outcome, Settings, MOST_LIST, MOST_OUTPUT};
+use oracle::calls::{
+    self, Call, Lent, Outcome, Settings, MOST_DECK, MOST_LIST, MOST_OUTPUT, MOST_POOL,
+};
 use oracle::damage::records;
 use oracle::deck::Deck;
 use oracle::draws;
@@ -50,6 +52,7 @@ fn main() {
     for extreme in extremes::all().into_iter().chain(included::limits()) {
         at_the_limit(&extreme, &mut count);
     }
+    over_the_limits(&mut count);
     println!("{} at the limits", count.compared - cases as usize);
     count.tell();
     println!("{} compared, {} differ", count.compared, count.differ);
@@ -162,8 +165,8 @@ fn available(rng: &mut Rng) -> Call {
     }
 }
 
-/// Every call on a deck at the limits, with rooms that are exact, one short, none and the largest.
-fn at_the_limit(extreme: &Extreme, count: &mut Count) {
+/// Calls of every name, some with settings that bite.
+fn every_call() -> Vec<Call> {
     let settings = Settings {
         indent: 16,
         width: 80,
@@ -183,6 +186,37 @@ fn at_the_limit(extreme: &Extreme, count: &mut Count) {
         Call::LocalModified,
         Call::CollectChangedIncludeChanges,
     ];
+    all.to_vec()
+}
+
+/// A deck or a pool of one byte more than its limit: refused before anything in it is looked at, but after the settings.
+fn over_the_limits(count: &mut Count) {
+    let too_wide = Call::EmitRoundtripDump(Settings {
+        width: 65_536,
+        ..Settings::default()
+    });
+    let calls = every_call().into_iter().chain([too_wide]);
+    for call in calls.filter(archive::has) {
+        for node in [0x20, 0xff] {
+            for (deck, pool) in [
+                (MOST_DECK + 1, 0),
+                (1, MOST_POOL + 1),
+                (MOST_DECK + 1, MOST_POOL + 1),
+            ] {
+                let deck = Deck {
+                    deck: vec![node; deck],
+                    pool: vec![b'a'; pool],
+                };
+                let room = if call.is_lent_output() { 10 } else { 0 };
+                count.try_one(&lent_for(&call, &deck, room, 3));
+            }
+        }
+    }
+}
+
+/// Every call on a deck at the limits, with rooms that are exact, one short, none and the largest.
+fn at_the_limit(extreme: &Extreme, count: &mut Count) {
+    let all = every_call();
     let some = if extreme.huge { 2 } else { all.len() };
     for call in all[..some].iter().filter(|call| archive::has(call)) {
         for (room, list) in rooms(call, extreme) {
