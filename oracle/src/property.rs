@@ -355,8 +355,6 @@ fn properties(rng: &mut Rng, node: &mut YamlNode) {
 /// What the pair showed beside that nothing differs.
 #[derive(Debug, Clone, Copy, PartialEq, Eq, Default)]
 pub struct Seen {
-    /// Some call did not answer.
-    pub refused: bool,
     pub root: bool,
     pub around: usize,
     /// Files around it that are handed back, in both.
@@ -375,7 +373,7 @@ pub fn check(rng: &mut Rng, pair: &Pair, ask: Ask) -> Result<Seen, String> {
     let mut seen = Seen::default();
     let before = places(&pair.before);
     seen.root = before[pair.at].parent.is_none();
-    same_bytes(pair, &all, &one, ask, &mut seen)?;
+    same_bytes(pair, &all, &one, ask)?;
     documents_back(pair, &one, ask, &mut seen)?;
     files_back(pair, &all, ask, &mut seen)?;
     Ok(seen)
@@ -386,24 +384,19 @@ fn pooled(rng: &mut Rng, documents: &[YamlNode]) -> Deck {
     build(documents, pooling, rng)
 }
 
-/// Both decks through one call, where it is there and answers.
-fn both(call: &Call, decks: &[Deck; 2], ask: Ask, seen: &mut Seen) -> Option<[Said; 2]> {
-    let [before, after] = [ask(call, &decks[0])?, ask(call, &decks[1])?];
-    if before.number != 0 || after.number != 0 {
-        seen.refused = true;
-        return None;
+/// Both decks through one call, where it is there. Both are well formed and small, so it must answer.
+fn both(call: &Call, decks: &[Deck; 2], ask: Ask) -> Result<Option<[Said; 2]>, String> {
+    let (Some(before), Some(after)) = (ask(call, &decks[0]), ask(call, &decks[1])) else {
+        return Ok(None);
+    };
+    match [before.number, after.number] {
+        [0, 0] => Ok(Some([before, after])),
+        numbers => Err(format!("{} refused: {numbers:?}", archive::name(call))),
     }
-    Some([before, after])
 }
 
 /// The document's bytes stay.
-fn same_bytes(
-    pair: &Pair,
-    all: &[Deck; 2],
-    one: &[Deck; 2],
-    ask: Ask,
-    seen: &mut Seen,
-) -> Result<(), String> {
+fn same_bytes(pair: &Pair, all: &[Deck; 2], one: &[Deck; 2], ask: Ask) -> Result<(), String> {
     let style = pair.settings.null_style;
     let calls = [
         (Call::EmitRoundtripAllWith(style), all),
@@ -412,7 +405,7 @@ fn same_bytes(
         (Call::EmitRoundtripDump(pair.settings), one),
     ];
     for (call, decks) in calls {
-        let Some([before, after]) = both(&call, decks, ask, seen) else {
+        let Some([before, after]) = both(&call, decks, ask)? else {
             continue;
         };
         if before.bytes != after.bytes {
@@ -424,7 +417,7 @@ fn same_bytes(
 
 /// Whether the document is handed back is as computed and, unless the include is its root, stays.
 fn documents_back(pair: &Pair, one: &[Deck; 2], ask: Ask, seen: &mut Seen) -> Result<(), String> {
-    let Some(said) = both(&Call::LocalModified, one, ask, seen) else {
+    let Some(said) = both(&Call::LocalModified, one, ask)? else {
         return Ok(());
     };
     for (said, documents) in said.iter().zip([&pair.before, &pair.after]) {
@@ -442,7 +435,7 @@ fn documents_back(pair: &Pair, one: &[Deck; 2], ask: Ask, seen: &mut Seen) -> Re
 
 /// The files that are handed back are those computed, each is its node without the include, and those around the include stay.
 fn files_back(pair: &Pair, all: &[Deck; 2], ask: Ask, seen: &mut Seen) -> Result<(), String> {
-    let Some(said) = both(&Call::CollectChangedIncludeChanges, all, ask, seen) else {
+    let Some(said) = both(&Call::CollectChangedIncludeChanges, all, ask)? else {
         return Ok(());
     };
     let wanted = [&pair.before, &pair.after].map(|documents| handed_back(&places(documents)));

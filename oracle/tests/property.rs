@@ -26,7 +26,6 @@ fn the_rust_has_it() {
         seen.push(tried.unwrap_or_else(|why| panic!("pair {number}: {why}")));
     }
     let count = |what: fn(&Seen) -> bool| seen.iter().filter(|seen| what(seen)).count();
-    assert_eq!(count(|seen| seen.refused), 0);
     assert!(count(|seen| seen.root) > 1_000);
     assert!(count(|seen| seen.around > 0) > 2_000);
     assert!(count(|seen| seen.back > 0) > 500);
@@ -126,6 +125,15 @@ fn any_mark(call: &Call, documents: &[YamlNode], said: &mut Said) {
     }
 }
 
+fn refused(_: &Call, documents: &[YamlNode], said: &mut Said) {
+    if documents[0].source.is_some() {
+        *said = Said {
+            number: 3,
+            ..Said::default()
+        };
+    }
+}
+
 fn faults() -> Vec<Fault> {
     let tree = |name, tree| Fault {
         name,
@@ -148,6 +156,7 @@ fn faults() -> Vec<Fault> {
         said("the first file again and again", the_first_again),
         said("no document is ever handed back", nothing_changed),
         said("any mark hands the document back", any_mark),
+        said("a document that is an include is refused", refused),
     ]
 }
 
