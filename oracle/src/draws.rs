@@ -2,6 +2,7 @@
 
 use crate::damage::{self, damage, tower, TOWERS};
 use crate::deck::{build, Deck, Pooling, POOLINGS};
+use crate::included;
 use crate::random::texts;
 use crate::random::{trees, Rng};
 use crate::recipes;
@@ -10,7 +11,8 @@ use crate::theorems;
 /// A deck of any sort.
 pub fn deck(rng: &mut Rng) -> Deck {
     match rng.below(40) {
-        0..=15 => tree(rng),
+        0..=10 => tree(rng),
+        11..=15 => included::deck(rng),
         16..=21 => corner(rng),
         22..=24 => scalar(rng),
         25..=27 => recipe(rng),

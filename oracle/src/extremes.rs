@@ -15,7 +15,7 @@ pub struct Extreme {
     pub huge: bool,
 }
 
-fn made(name: &str, deck: Vec<u8>, pool: Vec<u8>) -> Extreme {
+pub(crate) fn made(name: &str, deck: Vec<u8>, pool: Vec<u8>) -> Extreme {
     Extreme {
         name: name.to_owned(),
         deck: Deck { deck, pool },
@@ -24,19 +24,19 @@ fn made(name: &str, deck: Vec<u8>, pool: Vec<u8>) -> Extreme {
 }
 
 /// A reference to the whole of a text at the pool's front.
-fn whole(length: usize) -> [u8; 4] {
+pub(crate) fn whole(length: usize) -> [u8; 4] {
     let length = (length as u16).to_le_bytes();
     [0, 0, length[0], length[1]]
 }
 
-fn record(kind: u8, length: usize, rest: &[u8]) -> Vec<u8> {
+pub(crate) fn record(kind: u8, length: usize, rest: &[u8]) -> Vec<u8> {
     let mut bytes = vec![kind];
     bytes.extend(whole(length));
     bytes.extend(rest);
     bytes
 }
 
-fn collection(kind: u8, flow: bool, count: usize) -> Vec<u8> {
+pub(crate) fn collection(kind: u8, flow: bool, count: usize) -> Vec<u8> {
     let count = (count as u16).to_le_bytes();
     vec![kind, u8::from(flow), count[0], count[1]]
 }

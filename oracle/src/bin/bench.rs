@@ -6,10 +6,13 @@ use oracle::calls::{self, Call, Settings, MOST_DECK, MOST_OUTPUT, MOST_POOL};
 use oracle::deck::{build, Deck, Pooling};
 use oracle::encode::NullStyle;
 use oracle::extremes;
+use oracle::included::{self, EachBelow};
 use oracle::judge;
 use oracle::random::Rng;
 use oracle::recipes;
-use oracle::roundtrip::ast::{NodeStyle, YamlNode, YamlNodeKind};
+use oracle::roundtrip::ast::{IncludeSource, NodeStyle, YamlNode, YamlNodeKind};
+use oracle::roundtrip::emit;
+use oracle::scanner::ScalarStyle;
 use std::hint::black_box;
 use std::process::exit;
 use std::time::{Duration, Instant};
@@ -40,7 +43,10 @@ fn main() {
         "judging"
     );
     let wanted = words.get(1).map_or("", String::as_str);
-    for subject in subjects().iter().filter(|subject| subject.name.contains(wanted)) {
+    for subject in subjects()
+        .iter()
+        .filter(|subject| subject.name.contains(wanted))
+    {
         measure(subject, Duration::from_secs_f64(seconds));
     }
     println!("times in microseconds; (a) the archive's call by the Rust's emission of a tree that is built already;");
@@ -127,7 +133,106 @@ fn subjects() -> Vec<Subject> {
         ALL,
         short_texts(),
     ));
+    found.extend(about_changes());
+    found.retain(|subject| archive::has(&subject.call));
     found
+}
+
+/// The two calls about changes: a typical recipe, and as many includes as fit, side by side and in one another.
+fn about_changes() -> Vec<Subject> {
+    const COLLECT: Call = Call::CollectChangedIncludeChanges;
+    let mut found = vec![
+        subject(
+            "local_modified: a recipe with two includes",
+            Call::LocalModified,
+            two_includes(),
+        ),
+        subject(
+            "local_modified: a recipe that fills its deck",
+            Call::LocalModified,
+            largest_recipe(),
+        ),
+        subject(
+            "collect: a recipe with two includes",
+            COLLECT,
+            two_includes(),
+        ),
+    ];
+    let wanted = [
+        (
+            "64 nested",
+            "64 includes, each the item of another, block, all changed",
+        ),
+        (
+            "64 nested as keys",
+            "64 includes, each the key of another, block, all changed",
+        ),
+        (
+            "3,120 side by side",
+            "3,120 changed includes, each with an id of its own",
+        ),
+        (
+            "3,443, most of them keys",
+            "3,443 changed includes, most of them keys",
+        ),
+        ("4,369, none changed", "4,369 includes, none changed"),
+        (
+            "16 files of 64 KiB",
+            "16 changed files of 65,536 bytes each",
+        ),
+    ];
+    let mut limits = included::limits();
+    for (short, name) in wanted {
+        let Some(at) = limits.iter().position(|extreme| extreme.name == name) else {
+            fail(&format!("No deck is called {name}."));
+        };
+        let deck = limits.swap_remove(at).deck;
+        found.push(subject(&format!("collect: {short}"), COLLECT, deck));
+    }
+    found
+}
+
+/// A recipe of about 300 nodes, two thirds of them in two included files, of which one has a changed value.
+fn two_includes() -> Deck {
+    let rng = &mut Rng::new(5);
+    let mut parts: Vec<YamlNode> = Vec::new();
+    while parts.len() < 3 {
+        let mut part = recipes::recipe(rng, 100).swap_remove(0);
+        let block = part.style == NodeStyle::Block && part.source.is_none();
+        if block && count(&part) >= 70 {
+            (part.explicit_start, part.leading_bom) = (false, false);
+            part.directives.clear();
+            part.each_below(&mut |node| {
+                node.comments.modified = false;
+                node.source = None;
+            });
+            parts.push(part);
+        }
+    }
+    for (part, id) in parts[1..].iter_mut().zip(1..) {
+        part.source = Some(IncludeSource {
+            tag: "!include".to_owned(),
+            target: format!("engines/{id}.yaml"),
+            target_file_id: Some(id),
+        });
+    }
+    mark_last(&mut parts[2]);
+    let names = ["screen", "fast", "fine"].map(|name| {
+        let kind = YamlNodeKind::Scalar(name.to_owned(), ScalarStyle::Plain);
+        YamlNode::new(kind, Default::default())
+    });
+    let kind = YamlNodeKind::Mapping(names.into_iter().zip(parts).collect());
+    let root = YamlNode::new(kind, Default::default());
+    build(&[root], Pooling::InOrder, rng)
+}
+
+/// The changed mark on the last node.
+fn mark_last(part: &mut YamlNode) {
+    let mut left = count(part);
+    part.each_below(&mut |node| {
+        left -= 1;
+        node.comments.modified = left == 0;
+    });
 }
 
 /// A recipe of one document.
@@ -187,7 +292,9 @@ fn short_texts() -> Deck {
 fn measure(subject: &Subject, time: Duration) {
     let Subject { name, call, deck } = subject;
     let built = judge::read(&deck.deck, &deck.pool);
-    let written = calls::unbounded(call, &deck.deck, &deck.pool).map_or(0, |w| w.bytes.len());
+    let written = calls::unbounded(call, &deck.deck, &deck.pool).unwrap_or_default();
+    let mut list = vec![Entry::default(); written.changes.len()];
+    let written = written.bytes.len();
     // What is written may be gigabytes: then the call is refused for want of room, and one turn is enough.
     let huge = written > 100 * MOST_OUTPUT;
     let mut output = vec![0u8; written.min(MOST_OUTPUT)];
@@ -205,32 +312,39 @@ fn measure(subject: &Subject, time: Duration) {
             1
         };
         best[0] = best[0].min(timed(inner, || {
-            let answer = archive::answer(call, &deck.deck, &deck.pool, &mut output, no_list());
-            black_box(answer.length);
+            let answer = archive::answer(call, &deck.deck, &deck.pool, &mut output, &mut list);
+            black_box((answer.length, answer.modified));
         }));
         if judges {
             best[1] = best[1].min(timed(inner, || {
                 let call = &Call::EmitRoundtrip;
-                let answer = archive::answer(call, &two, &deck.pool, &mut [], no_list());
+                let answer = archive::answer(call, &two, &deck.pool, &mut [], &mut []);
                 assert_eq!(black_box(answer.number), 8, "{name}");
             }));
         }
         if let Ok(documents) = &built {
             best[2] = best[2].min(timed(inner, || {
-                black_box(calls::written(call, documents).bytes.len());
+                black_box(rust_emits(call, documents));
             }));
         }
         best[3] = best[3].min(timed(inner, || {
-            let written = calls::unbounded(call, &deck.deck, &deck.pool);
-            black_box(written.is_ok());
+            let built = judge::read(&deck.deck, &deck.pool);
+            black_box(built.map_or(0, |documents| rust_emits(call, &documents)));
         }));
         turns += 1;
     }
     line(name, deck, written, &best);
 }
 
-fn no_list() -> &'static mut [Entry] {
-    &mut []
+/// The Rust's own function on trees that are built; of what it gives a number is kept.
+fn rust_emits(call: &Call, documents: &[YamlNode]) -> usize {
+    match call {
+        Call::CollectChangedIncludeChanges => {
+            emit::collect_changed_include_changes(black_box(documents)).len()
+        }
+        Call::LocalModified => usize::from(emit::local_modified(black_box(&documents[0]))),
+        _ => calls::written(call, documents).bytes.len(),
+    }
 }
 
 /// Microseconds for one run.

@@ -2,13 +2,17 @@
 //! every byte of output and list is compared, also those that must stay as they were. The last line is `N compared, M differ`.
 
 use oracle::archive;
-use oracle::calls::{self, Call, Lent, Outcome, Settings, MOST_LIST, MOST_OUTPUT};
+use oracle::calls::{
+    self, Call, Lent, Outcome, Settings, MOST_DECK, MOST_LIST, MOST_OUTPUT, MOST_POOL,
+};
 use oracle::damage::records;
 use oracle::deck::Deck;
 use oracle::draws;
 use oracle::encode::NullStyle;
 use oracle::extremes::{self, Extreme};
+use oracle::included;
 use oracle::random::{lending, Rng};
+use std::collections::BTreeMap;
 use std::process::exit;
 use std::time::Instant;
 
@@ -45,11 +49,12 @@ fn main() {
     }
     let seconds = begun.elapsed().as_secs();
     println!("{} at random, in {seconds} s", count.compared);
-    for extreme in extremes::all() {
+    for extreme in extremes::all().into_iter().chain(included::limits()) {
         at_the_limit(&extreme, &mut count);
     }
+    over_the_limits(&mut count);
     println!("{} at the limits", count.compared - cases as usize);
-    println!("numbers met, from 0: {:?}", count.met);
+    count.tell();
     println!("{} compared, {} differ", count.compared, count.differ);
     exit(i32::from(count.differ > 0));
 }
@@ -71,6 +76,11 @@ struct Count {
     compared: usize,
     differ: usize,
     met: [usize; 11],
+    calls: BTreeMap<&'static str, [usize; 11]>,
+    entries: usize,
+    with_entries: usize,
+    most_entries: usize,
+    yes: usize,
 }
 
 impl Count {
@@ -78,7 +88,7 @@ impl Count {
         let wanted = calls::outcome(&case.call, &case.lent);
         let came = archive::outcome(&case.call, &case.lent);
         self.compared += 1;
-        self.met[wanted.number] += 1;
+        self.note(&case.call, &wanted);
         if came == wanted {
             return;
         }
@@ -87,17 +97,63 @@ impl Count {
             show(&smallest(case.clone()));
         }
     }
+
+    fn note(&mut self, call: &Call, wanted: &Outcome) {
+        self.met[wanted.number] += 1;
+        let met = self.calls.entry(archive::name(call)).or_default();
+        met[wanted.number] += 1;
+        self.entries += wanted.count;
+        self.with_entries += usize::from(wanted.count > 0);
+        self.most_entries = self.most_entries.max(wanted.count);
+        self.yes += usize::from(wanted.yes);
+    }
+
+    /// How often each number was met, for each call and in all, and what the two calls about changes said.
+    fn tell(&self) {
+        for (name, met) in &self.calls {
+            let calls: usize = met.iter().sum();
+            println!("{name}: {calls} calls, numbers met, from 0: {met:?}");
+        }
+        println!(
+            "{} calls handed back {} files, {} at most; {} documents were changed",
+            self.with_entries, self.entries, self.most_entries, self.yes
+        );
+        println!("numbers met, from 0: {:?}", self.met);
+    }
 }
 
 /// A random deck and a call that the archive has, with rooms around what is written, now and then with something over its limit.
 fn random(rng: &mut Rng) -> Case {
-    let deck = draws::deck(rng);
-    let call = available(rng);
+    let includes = rng.one_in(6);
+    let deck = if includes {
+        included::deck(rng)
+    } else {
+        draws::deck(rng)
+    };
+    let call = if includes && rng.chance(80) {
+        about_changes(rng)
+    } else {
+        available(rng)
+    };
     let mut lent = lending::lent(rng, &call, &deck);
     if rng.one_in(5000) {
         lending::enlarge(rng, &call, &mut lent);
     }
     Case { call, lent }
+}
+
+/// One of the two calls about changes, where the archive has it.
+fn about_changes(rng: &mut Rng) -> Call {
+    let call = if rng.one_in(4) {
+        Call::LocalModified
+    } else {
+        Call::CollectChangedIncludeChanges
+    };
+    if archive::has(&call) {
+        call
+    } else {
+        available(rng)
+    }
 }
 
 fn available(rng: &mut Rng) -> Call {
@@ -109,8 +165,8 @@ fn available(rng: &mut Rng) -> Call {
     }
 }
 
-/// Every call on a deck at the limits, with rooms that are exact, one short, none and the largest.
-fn at_the_limit(extreme: &Extreme, count: &mut Count) {
+/// Calls of every name, some with settings that bite.
+fn every_call() -> Vec<Call> {
     let settings = Settings {
         indent: 16,
         width: 80,
@@ -130,6 +186,37 @@ fn at_the_limit(extreme: &Extreme, count: &mut Count) {
         Call::LocalModified,
         Call::CollectChangedIncludeChanges,
     ];
+    all.to_vec()
+}
+
+/// A deck or a pool of one byte more than its limit: refused before anything in it is looked at, but after the settings.
+fn over_the_limits(count: &mut Count) {
+    let too_wide = Call::EmitRoundtripDump(Settings {
+        width: 65_536,
+        ..Settings::default()
+    });
+    let calls = every_call().into_iter().chain([too_wide]);
+    for call in calls.filter(archive::has) {
+        for node in [0x20, 0xff] {
+            for (deck, pool) in [
+                (MOST_DECK + 1, 0),
+                (1, MOST_POOL + 1),
+                (MOST_DECK + 1, MOST_POOL + 1),
+            ] {
+                let deck = Deck {
+                    deck: vec![node; deck],
+                    pool: vec![b'a'; pool],
+                };
+                let room = if call.is_lent_output() { 10 } else { 0 };
+                count.try_one(&lent_for(&call, &deck, room, 3));
+            }
+        }
+    }
+}
+
+/// Every call on a deck at the limits, with rooms that are exact, one short, none and the largest.
+fn at_the_limit(extreme: &Extreme, count: &mut Count) {
+    let all = every_call();
     let some = if extreme.huge { 2 } else { all.len() };
     for call in all[..some].iter().filter(|call| archive::has(call)) {
         for (room, list) in rooms(call, extreme) {
@@ -160,6 +247,12 @@ fn rooms(call: &Call, extreme: &Extreme) -> Vec<(usize, usize)> {
     }
     for &list in lists.iter().filter(|_| call.is_lent_list()) {
         rooms.push((written.bytes.len().min(MOST_OUTPUT), list));
+    }
+    // Both too short: want of entries is told first. Both over their limits.
+    for less in [written.changes.len().saturating_sub(1), 0, MOST_LIST + 1] {
+        if call.is_lent_list() {
+            rooms.push((less.min(written.bytes.len().saturating_sub(1)), less));
+        }
     }
     if rooms.is_empty() {
         rooms.push((0, 0));
