@@ -1,15 +1,15 @@
 -- Laws of the emit program's parts.
 -- Assumes nothing.
-use mathlib.Core.Path.{_≡_, refl, sym, ap, ap₂, subst, _∙_}
+use mathlib.Core.Path.{_≡_, refl, sym, ap, _∙_}
 use Prim.Native.Nat.{ℕ, zero, suc, _+_, _-_, _/_, _%_, _≤_, _<_, min}
 use native.Mathlib.Omega.{arith}
 use mathlib.Core.Bool.{Bool, true, false}
 use lib.Dec.{ltb}
-use mathlib.Core.List.{List, [], _∷_, _++_}
+use mathlib.Core.List.{[], _∷_}
 use lib.ListN.{length, take, drop, length-drop, drop-of-length-le}
 use lib.Seq.{take-all, drop-drop}
 use borrow.Author.Tests.{lt-ltb, le-ltb, ltb-true, ltb-false, eq-eqb, ne-eqb}
-use Rattle.definition.specs.Base.{Bytes, if_then_else_}
+use Rattle.definition.specs.Base.{Bytes}
 use Rattle.definition.specs.Settings.{plainSettings}
 use Rattle.definition.specs.Calls.{Outcome, outcome, emitRoundtripAllWith}
 use Rattle.definition.specs.Program.{decimal, refusalLine, shown, emitInto, program}
@@ -17,7 +17,7 @@ use Rattle.definition.specs.declared.NullStyle.the-variants.{Null}
 use Rattle.told.specs.Outcome.{lent}
 use Rattle.answers.specs.declared.Answer.{Answer}
 use Rattle.answers.specs.Answer.{outcomeOf}
-use Rattle.frame.specs.Front.{Adds, Shows, adds-nothing, adds-then, adds-shows, blank, blank-length}
+use Rattle.frame.specs.Front.{Adds, Shows, adds-nothing, adds-then, blank}
 use Rattle.frame.specs.Cut.{deckLength, all-fits, stated-program, cut-program}
 
 -- ---- digits

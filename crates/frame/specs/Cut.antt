@@ -1,14 +1,14 @@
 -- The emit program's input, part by part; and that a program which reads 131,077 bytes of it has read enough.
-use mathlib.Core.Path.{_≡_, refl, sym, ap, ap₂, _∙_}
-use Prim.Native.Nat.{ℕ, _+_, _-_, _*_, _≤_, _<_, min}
+use mathlib.Core.Path.{_≡_, refl, sym, ap, _∙_}
+use Prim.Native.Nat.{ℕ, _+_, _-_, _*_, _≤_, _<_}
 use native.Mathlib.Omega.{arith}
 use mathlib.Core.Bool.{Bool, true, false, _||_}
 use mathlib.Core.List.{List, []}
 use lib.Dec.{ltb}
-use lib.ListN.{length, take, drop, length-take, length-drop}
-use lib.Seq.{take-all, drop-drop, length-take-le}
+use lib.ListN.{length, take, drop, length-drop}
+use lib.Seq.{take-all, length-take-le}
 use borrow.Author.Tests.{lt-ltb, le-ltb, ltb-true, ltb-false}
-use Rattle.definition.specs.Base.{Bytes, if_then_else_}
+use Rattle.definition.specs.Base.{Bytes}
 use Rattle.definition.specs.Records.{wordAt}
 use Rattle.definition.specs.Settings.{plainSettings}
 use Rattle.definition.specs.Tree.{Node}

@@ -1,14 +1,10 @@
 mod Base
 mod PutDecimal
-use Prim.Native.Nat.{ℕ, _<_}
 use Rattle.frame.proofs.put_decimal.Reads as put-decimal
-use Rattle.frame.proofs.put_decimal.Kinds as put-decimal-kinds
 use Rattle.frame.proofs.+put_decimal.Lts-put_decimal as put-decimal-lts
-use Rattle.frame.proofs.digit.Reads as digit-reads
-use Rattle.frame.proofs.put.Reads as put-reads
 use Rattle.frame.proofs.+put_decimal.{statement}
 use Rattle.frame.proofs.+put_decimal.Tie.{close}
-use Rattle.frame.proofs.+put_decimal.Proof.Base.{μ-put-decimal, put-decimal-at, put-decimal-below, put-decimal-claims}
+use Rattle.frame.proofs.+put_decimal.Proof.Base.{μ-put-decimal, put-decimal-at, put-decimal-claims}
 use Rattle.frame.proofs.+put_decimal.Proof.PutDecimal.{put-decimal-returns, put-decimal-digit-requires, put-decimal-put-requires, put-decimal-same-length, put-decimal-returns-2, put-decimal-sub-put-decimal, put-decimal-put-decimal-requires, put-decimal-digit-requires-2, put-decimal-put-requires-2, put-decimal-same-length-2, put-decimal-returns-3}
 
 pub +put-decimal-spec : {M : Type 1} → statement M

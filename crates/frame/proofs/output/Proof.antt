@@ -1,11 +1,9 @@
+-- `output` is all zero.
 use mathlib.Core.Path.{refl}
 use Rattle.frame.specs.Front.{blank}
 use Rattle.frame.proofs.output.Statement.{statement}
 use Rattle.frame.proofs.output.Tie as tie
-use Rattle.frame.proofs.output.Reads as reads
-use Rattle.frame.proofs.output.Lts as lts
 
--- src/lib.rt:19:1
 returns : tie.Need-returns
 unfolding blank
 returns c = (refl, refl)

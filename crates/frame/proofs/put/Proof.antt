@@ -1,23 +1,18 @@
+-- `put` adds one byte.
 use Rattle.frame.specs.Front.{adds-byte}
 use borrow.Author.Needs.{needs}
 use Rattle.frame.proofs.put.Statement.{statement}
 use Rattle.frame.proofs.put.Tie as tie
-use Rattle.frame.proofs.put.Reads as reads
-use Rattle.frame.proofs.put.Lts as lts
 
--- src/lib.rt:16:5
 slice-write-out : tie.Need-slice-write-out
 slice-write-out c = search needs
 
--- src/lib.rt:17:5
 add-result : tie.Need-add-result
 add-result c = search needs
 
--- src/lib.rt:12:1
 same-length : tie.Need-same-length
 same-length c = search needs
 
--- src/lib.rt:12:1
 returns : tie.Need-returns
 returns c = adds-byte _ _ _ (c .pre)
 

@@ -1,13 +1,12 @@
+-- `put_text`: after i turns the first i bytes of the text are added.
 use Prim.Native.Nat.{_+_, _-_, _≤_}
 use native.Mathlib.Omega.{arith}
-use mathlib.Core.Path.{_≡_, refl, _∙_}
+use mathlib.Core.Path.{_≡_, refl}
 use lib.ListN.{length, take, length-set}
 use Rattle.frame.specs.Front.{Adds, adds-none, adds-next, adds-all}
 use borrow.Author.Needs.{needs}
 use Rattle.frame.proofs.put_text.Statement.{statement}
 use Rattle.frame.proofs.put_text.Tie as tie
-use Rattle.frame.proofs.put_text.Reads as reads
-use Rattle.frame.proofs.put_text.Lts as lts
 
 abbrev Inv-loop : tie.InvT-loop
 Inv-loop out₀ at text i₀ out i = Adds (take i text) at out₀ (at + i) out × (i ≤ length text) × (length out ≡ length out₀)
@@ -15,43 +14,33 @@ Inv-loop out₀ at text i₀ out i = Adds (take i text) at out₀ (at + i) out �
 abbrev μ-loop : tie.MeasureT-loop
 μ-loop out₀ at text i₀ out i = length text - i
 
--- src/lib.rt:25:5
 loop-holds : tie.Need-loop-holds Inv-loop μ-loop
 loop-holds c = (adds-none (c .args .text .now) _ _, omega arith, refl)
 
--- src/lib.rt:26:23
 shared-slice-read-out : tie.Need-shared-slice-read-out Inv-loop μ-loop
 shared-slice-read-out c = search needs
 
--- src/lib.rt:26:13
 add-out : tie.Need-add-out Inv-loop μ-loop
 add-out c = search needs
 
--- src/lib.rt:26:9
 slice-write-out : tie.Need-slice-write-out Inv-loop μ-loop
 slice-write-out c = search needs
 
--- src/lib.rt:27:9
 add-i : tie.Need-add-i Inv-loop μ-loop
 add-i c = search needs
 
--- src/lib.rt:25:5
 loop-less : tie.Need-loop-less Inv-loop μ-loop
 loop-less c = search needs
 
--- src/lib.rt:25:5
 loop-again : tie.Need-loop-again Inv-loop μ-loop
 loop-again c = (adds-next _ _ _ _ _ (c .before .before .loop .inv .0) (c .before .loop-test .taken) (omega arith), omega arith, simp length-set (omega arith))
 
--- src/lib.rt:29:5
 add-result : tie.Need-add-result Inv-loop μ-loop
 add-result c = search needs
 
--- src/lib.rt:20:1
 same-length : tie.Need-same-length Inv-loop μ-loop
 same-length c = search needs
 
--- src/lib.rt:20:1
 returns : tie.Need-returns Inv-loop μ-loop
 returns c = adds-all (c .before .before .args .text .now) (c .before .loop .i) _ _ _ _ (c .before .loop .inv .0) (omega arith)
 

@@ -1,51 +1,38 @@
+-- `refuse`: five texts, one after another.
 use native.Mathlib.Omega.{arith}
 use Rattle.definition.specs.Program.{refusalLine}
 use Rattle.frame.specs.Front.{adds-then, adds-shows}
 use borrow.Author.Needs.{needs}
 use Rattle.frame.proofs.refuse.Statement.{statement}
 use Rattle.frame.proofs.refuse.Tie as tie
-use Rattle.frame.proofs.refuse.Reads as reads
-use Rattle.frame.proofs.refuse.Lts as lts
-use Rattle.frame.proofs.put_decimal.Reads as put-decimal-reads
-use Rattle.frame.proofs.put_text.Reads as put-text-reads
 
--- src/lib.rt:58:30
 slice-aggregate-put-text : tie.Need-slice-aggregate-put-text
 slice-aggregate-put-text c = search needs
 
--- src/lib.rt:58:9
 put-text-requires : tie.Need-put-text-requires
 put-text-requires c κs = search needs
 
--- src/lib.rt:59:9
 put-decimal-requires : tie.Need-put-decimal-requires
 put-decimal-requires c κs = search needs
 
--- src/lib.rt:60:30
 slice-aggregate-put-text-2 : tie.Need-slice-aggregate-put-text-2
 slice-aggregate-put-text-2 c = search needs
 
--- src/lib.rt:60:9
 put-text-requires-2 : tie.Need-put-text-requires-2
 put-text-requires-2 c κs = let e = c .before .before .before .before .before .before .before .before .put-text .ensures .ends in let f = c .before .before .before .before .put-decimal .ensures .1 in omega arith
 
--- src/lib.rt:61:9
 put-decimal-requires-2 : tie.Need-put-decimal-requires-2
 put-decimal-requires-2 c κs = let e = c .before .before .before .before .before .before .before .before .before .before .before .before .put-text .ensures .ends in let f = c .before .before .before .before .before .before .before .before .put-decimal .ensures .1 in let g = c .before .before .before .put-text2 .ensures .ends in omega arith
 
--- src/lib.rt:62:22
 slice-aggregate-put-text-3 : tie.Need-slice-aggregate-put-text-3
 slice-aggregate-put-text-3 c = search needs
 
--- src/lib.rt:62:5
 put-text-requires-3 : tie.Need-put-text-requires-3
 put-text-requires-3 c κs = let e = c .before .before .before .before .before .before .before .before .before .before .before .before .before .before .before .before .before .put-text .ensures .ends in let f = c .before .before .before .before .before .before .before .before .before .before .before .before .before .put-decimal .ensures .1 in let g = c .before .before .before .before .before .before .before .before .put-text2 .ensures .ends in let h = c .before .before .before .before .put-decimal2 .ensures .1 in omega arith
 
--- src/lib.rt:54:1
 same-length : tie.Need-same-length
 same-length c = search needs
 
--- src/lib.rt:54:1
 returns : tie.Need-returns
 unfolding refusalLine
 returns c =

@@ -1,15 +1,10 @@
-use Prim.Native.Nat.{_+_, _-_, _≤_, _<_, _^_}
-use native.Mathlib.Omega.{arith}
+-- `replay`: what is counted and what is left are together the number of cases.
+use Prim.Native.Nat.{_+_, _≤_, _<_, _^_}
 use mathlib.Core.Path.{_≡_}
-use lib.ListN.{length, length-set}
+use lib.ListN.{length}
 use borrow.Author.Needs.{needs}
 use Rattle.replay.proofs.replay.Statement.{statement}
 use Rattle.replay.proofs.replay.Tie as tie
-use Rattle.replay.proofs.replay.Reads as reads
-use Rattle.replay.proofs.replay.Lts as lts
-use Rattle.replay.proofs.case_end.Reads as case-end-reads
-use Rattle.replay.proofs.counted.Reads as counted-reads
-use Rattle.replay.proofs.long.Reads as long-reads
 
 abbrev Inv-loop : tie.InvT-loop
 Inv-loop list deck₀ pool₀ out₀ t₀ at₀ left₀ deck pool out t at left = (t .good + t .bad + t .other + left < 2 ^ 32) × (at ≤ length list) × (length deck ≡ length deck₀) × (length pool ≡ length pool₀) × (length out ≡ length out₀)
@@ -17,75 +12,57 @@ Inv-loop list deck₀ pool₀ out₀ t₀ at₀ left₀ deck pool out t at left 
 abbrev μ-loop : tie.MeasureT-loop
 μ-loop list deck₀ pool₀ out₀ t₀ at₀ left₀ deck pool out t at left = left
 
--- src/lib.rt:262:9
 long-requires : tie.Need-long-requires Inv-loop μ-loop
 long-requires c κs = search needs
 
--- src/lib.rt:263:5
 loop-holds : tie.Need-loop-holds Inv-loop μ-loop
 loop-holds c = search needs
 
--- src/lib.rt:264:24
 sub-counted : tie.Need-sub-counted Inv-loop μ-loop
 sub-counted c = search needs
 
--- src/lib.rt:264:24
 part-counted-start : tie.Need-part-counted-start Inv-loop μ-loop
 part-counted-start c = search needs
 
--- src/lib.rt:264:24
 part-counted-end : tie.Need-part-counted-end Inv-loop μ-loop
 part-counted-end c = search needs
 
--- src/lib.rt:264:9
 counted-requires : tie.Need-counted-requires Inv-loop μ-loop
 counted-requires c κs = search needs
 
--- src/lib.rt:265:24
 sub-case-end : tie.Need-sub-case-end Inv-loop μ-loop
 sub-case-end c = search needs
 
--- src/lib.rt:265:24
 part-case-end-start : tie.Need-part-case-end-start Inv-loop μ-loop
 part-case-end-start c = search needs
 
--- src/lib.rt:265:24
 part-case-end-end : tie.Need-part-case-end-end Inv-loop μ-loop
 part-case-end-end c = search needs
 
--- src/lib.rt:265:15
 case-end-requires : tie.Need-case-end-requires Inv-loop μ-loop
 case-end-requires c κs = search needs
 
--- src/lib.rt:265:9
 add-at : tie.Need-add-at Inv-loop μ-loop
 add-at c = search needs
 
--- src/lib.rt:266:9
 sub-left : tie.Need-sub-left Inv-loop μ-loop
 sub-left c = search needs
 
--- src/lib.rt:263:5
 loop-less : tie.Need-loop-less Inv-loop μ-loop
 loop-less c = search needs
 
--- src/lib.rt:263:5
 loop-again : tie.Need-loop-again Inv-loop μ-loop
 loop-again c = search needs
 
--- src/lib.rt:252:1
 same-length : tie.Need-same-length Inv-loop μ-loop
 same-length c = search needs
 
--- src/lib.rt:252:1
 same-length-2 : tie.Need-same-length-2 Inv-loop μ-loop
 same-length-2 c = search needs
 
--- src/lib.rt:252:1
 same-length-3 : tie.Need-same-length-3 Inv-loop μ-loop
 same-length-3 c = search needs
 
--- src/lib.rt:252:1
 returns : tie.Need-returns Inv-loop μ-loop
 returns c = search needs
 

@@ -1,3 +1,4 @@
+-- `put_decimal`: what falls at each call of itself, and what its callees claim.
 use Prim.Native.Nat.{ℕ, _<_}
 use borrow.Fn.Kinds.{In}
 use borrow.Fn.PlainCycle.{Measures, is, falls, and}
