@@ -10,15 +10,15 @@ use lib.Seq.{drop-cons, drop-drop}
 use lib.Dec.{ltb, eqb}
 use borrow.Author.Tests.{eq-eqb, ne-eqb, lt-ltb, le-ltb}
 use Rattle.pen.specs.Pen.{Pen, pen, puts, put1, puts-append}
+use Rattle.pen.specs.Runs.{Run, parted, run-length}
 use Rattle.definition.specs.Base.{Bytes, if_then_else_, spaces}
 use Rattle.definition.specs.Fold.{Folding, size, breakable, breakableIn}
 use Rattle.laws.specs.Tests.{Every, more}
 use Rattle.laws.specs.Pieces.{Quote}
 use Rattle.laws.specs.Folded.{aheadOf, foldedOf, no-break}
-use Rattle.quoted.specs.Piece.{spell, beside, Stands, Own, Run, folding}
+use Rattle.quoted.specs.Piece.{spell, beside, Stands, Own, folding}
 use Rattle.quoted.specs.declared.Piece.{Piece}
 use Rattle.quoted.specs.declared.Fold.{Fold}
-use Rattle.quoted.proofs.Laws.{parted, run-length}
 
 -- what holds of a byte and the text after it holds at a place of a text
 along : (F : Bytes → ℕ → Bytes → Type 0) (s : Bytes) (i : ℕ) → i < length s → ((a : ℕ) (t : Bytes) → F (a ∷ t) a t) → F (drop i s) (getD s i 0) (drop (i + 1) s)
@@ -72,22 +72,22 @@ fold-own q f after col (a ∷ b ∷ x) y (more p ps) h =
     let n : col + length (a ∷ b ∷ x) ≡ col + 1 + length (b ∷ x) = omega arith in
     rw (no-break after a ((b ∷ x) ++ y) e, p .itself, p .alone, e, fold-own q f false (col + 1) (b ∷ x) y ps (omega arith), n)
 
-module _ (q : Quote) (s : Bytes) (i j : ℕ) (r : Run q 32 s i j) (h : i < j) where
+module _ (q : Quote) (s : Bytes) (i j : ℕ) (r : Run (Own q 32) s i j) (h : i < j) where
   long : 0 < length (take (j - i) (drop i s))
-  long = rw (run-length q 32 s i j r) (omega arith)
+  long = rw (run-length (Own q 32) s i j r) (omega arith)
 
   pub measured-run : (n : ℕ) (after : Bool) → n + (j - i) + aheadOf q (λ b. 1) 0 false (drop j s) ≡ n + aheadOf q (λ b. 1) 0 after (drop i s)
   measured-run n after =
       let e : aheadOf q (λ b. 1) 0 after (drop i s) ≡ length (take (j - i) (drop i s)) + aheadOf q (λ b. 1) 0 false (drop j s) =
       ap (aheadOf q (λ b. 1) 0 after) (parted s i j (r .on)) ∙ ahead-own q after (take (j - i) (drop i s)) (drop j s) (r .each) long in
-      rw (e, run-length q 32 s i j r) (omega arith)
+      rw (e, run-length (Own q 32) s i j r) (omega arith)
 
   pub fold-run : (f : Fold) (col : ℕ) (after : Bool) (P P′ : Pen) → P′ ≡ puts (take (j - i) (drop i s)) P
       → puts (foldedOf q (folding f) 0 false (col + (j - i)) (drop j s)) P′ ≡ puts (foldedOf q (folding f) 0 after col (drop i s)) P
   fold-run f col after P P′ w =
       let e : foldedOf q (folding f) 0 after col (drop i s) ≡ take (j - i) (drop i s) ++ foldedOf q (folding f) 0 false (col + length (take (j - i) (drop i s))) (drop j s) =
       ap (foldedOf q (folding f) 0 after col) (parted s i j (r .on)) ∙ fold-own q f after col (take (j - i) (drop i s)) (drop j s) (r .each) long in
-      rw (e, run-length q 32 s i j r, w) (sym (puts-append (take (j - i) (drop i s)) _ P))
+      rw (e, run-length (Own q 32) s i j r, w) (sym (puts-append (take (j - i) (drop i s)) _ P))
 
 -- ---- one byte
 

@@ -5,19 +5,20 @@ use native.Mathlib.Numerals.{add-one}
 use mathlib.Core.Path.{_≡_, refl, sym, ap, _∙_}
 use mathlib.Core.Bool.{Bool, true, false, true≢false, false≢true, not}
 use mathlib.Core.List.{[], _∷_, _++_}
-use lib.ListN.{length, getD, drop, take, length-drop, take-append-drop}
-use lib.Seq.{drop-cons, drop-drop, getD-drop, take-suc, length-take-le}
+use lib.ListN.{length, getD, drop, take}
+use lib.Seq.{drop-cons, drop-drop, getD-drop}
 use lib.Dec.{ltb, leb, eqb}
 use borrow.Author.Tests.{eqb-true, eq-eqb, ne-eqb, ltb-true, lt-ltb, le-ltb, le-leb, lt-leb, leb-true, not-true}
 use Rattle.pen.specs.Pen.{Pen, put1, puts, puts-append}
+use Rattle.pen.specs.Runs.{Run, parted}
 use Rattle.definition.specs.Base.{Bytes, if_then_else_, within}
 use Rattle.definition.specs.Char.{nonPrintable}
 use Rattle.definition.specs.Quote.{digit, hex2, hex4, escaped}
-use Rattle.laws.specs.Tests.{is-within, below-it, above-it, by-test, Every, none, more, every-append}
+use Rattle.laws.specs.Tests.{is-within, below-it, above-it, by-test, Every, none, more}
 use Rattle.laws.specs.Numbers.{not-c1, not-non, non-is}
 use Rattle.laws.specs.Pieces.{Quote, isC1, isNon, doublePiece, doubleMore, singlePiece, quoteBy, body}
 use Rattle.laws.specs.Computed.{below, all, apply, equal, equal-is}
-use Rattle.quoted.specs.Piece.{spell, beside, letterOf, sound, Written, Stands, Own, Run}
+use Rattle.quoted.specs.Piece.{spell, beside, letterOf, sound, Written, Stands, Own}
 use Rattle.quoted.specs.declared.Piece.{Piece}
 use Rattle.quoted.specs.declared.Piece.the-variants.{Plain, Pair, Hex, Latin, Wide}
 
@@ -161,39 +162,12 @@ turn q s i n p P P′ h st w m =
 
 -- ---- bytes that are written as they are
 
--- a text from a place on is its bytes up to another place, and those from there on
-pub parted : (s : Bytes) (i j : ℕ) → i ≤ j → drop i s ≡ take (j - i) (drop i s) ++ drop j s
-parted s i j h =
-    let e : i + (j - i) ≡ j = omega arith in
-    sym (take-append-drop (j - i) (drop i s)) ∙ ap (λ (r : Bytes). take (j - i) (drop i s) ++ r) (drop-drop (j - i) i s ∙ ap (λ (n : ℕ). drop n s) e)
-
-pub run-start : (q : Quote) (stop : ℕ) (s : Bytes) (i : ℕ) → i ≤ length s → Run q stop s i i
-run-start q stop s i h = let e : i - i ≡ 0 = omega arith in record { each = rw e none; on = omega arith; inside = h }
-
-pub run-on : (q : Quote) (stop : ℕ) (s : Bytes) (i j : ℕ) → Run q stop s i j → j < length s → Own q stop (getD s j 0) → Run q stop s i (j + 1)
-run-on q stop s i j r h o =
-    let on = r .on in
-    let e : j + 1 - i ≡ suc (j - i) = omega arith in
-    let k : i + (j - i) ≡ j = omega arith in
-    let l : length (drop i s) ≡ length s - i = length-drop i s in
-    record {
-      each = rw (e, take-suc (drop i s) (j - i) 0 (omega arith), getD-drop i s (j - i) 0, k) (every-append (r .each) (more o none));
-      on = omega arith;
-      inside = omega arith;
-    }
-
-pub run-length : (q : Quote) (stop : ℕ) (s : Bytes) (i j : ℕ) → Run q stop s i j → length (take (j - i) (drop i s)) ≡ j - i
-run-length q stop s i j r =
-    let h = r .inside in
-    let l : length (drop i s) ≡ length s - i = length-drop i s in
-    length-take-le (j - i) (drop i s) (omega arith)
-
 body-own : (q : Quote) (stop : ℕ) (x y : Bytes) → Every (Own q stop) x → body q 0 (x ++ y) ≡ x ++ body q 0 y
 unfolding body
 body-own q stop [] y none = refl
 body-own q stop (a ∷ x) y (more p ps) = rw (p .itself, p .alone) (ap (λ (r : Bytes). a ∷ r) (body-own q stop x y ps))
 
-pub run-written : (q : Quote) (stop : ℕ) (s : Bytes) (i j : ℕ) (P P′ : Pen) → Run q stop s i j → P′ ≡ puts (take (j - i) (drop i s)) P
+pub run-written : (q : Quote) (stop : ℕ) (s : Bytes) (i j : ℕ) (P P′ : Pen) → Run (Own q stop) s i j → P′ ≡ puts (take (j - i) (drop i s)) P
     → puts (body q 0 (drop j s)) P′ ≡ puts (body q 0 (drop i s)) P
 run-written q stop s i j P P′ r e =
     rw e

@@ -1,11 +1,10 @@
 -- What the program keeps of a piece of a quoted body: its kind; and the contracts of a turn of each loop.
-use Prim.Native.Nat.{ℕ, _+_, _-_, _*_, _^_, _≤_, _<_, max}
+use Prim.Native.Nat.{ℕ, _+_, _*_, _^_, _≤_, _<_, max}
 use mathlib.Core.Path.{_≡_}
-use lib.ListN.{getD, drop, take, length}
+use lib.ListN.{getD, drop, length}
 use lib.Dec.{eqb}
 use mathlib.Core.List.{[], _∷_}
 use Rattle.definition.specs.Base.{Bytes, if_then_else_}
-use Rattle.laws.specs.Tests.{Every}
 use Rattle.laws.specs.Pieces.{Quote, body}
 use Rattle.definition.specs.Quote.{hex2, hex4}
 use Rattle.definition.specs.Fold.{Folding}
@@ -74,12 +73,6 @@ pub record Own (q : Quote) (stop a : ℕ) : Type 0 where
   pub itself : (b c : ℕ) → q .piece a b c ≡ a ∷ []
   pub alone : (b c : ℕ) → q .more a b c ≡ 0
   pub other : a ≡ stop → ⊥
-
--- from a place up to another there are only such bytes
-pub record Run (q : Quote) (stop : ℕ) (s : Bytes) (i j : ℕ) : Type 0 where
-  pub each : Every (Own q stop) (take (j - i) (drop i s))
-  pub on : i ≤ j
-  pub inside : j ≤ length s
 
 -- a turn: finishing from where it ends is finishing from where it began
 pub record Further (q : Quote) (s : Bytes) (i : ℕ) (w : Writer) (out : Bytes) (r : Going) (out′ : Bytes) : Type 0 where

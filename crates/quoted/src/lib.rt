@@ -5,11 +5,12 @@ ghost use Prim.Native.Nat.{_+_, _*_, _^_, _≤_, _<_};
 ghost use mathlib.Core.List.{[], _∷_};
 ghost use lib.ListN.{length, getD, drop};
 ghost use Rattle.pen.specs.Pen.{pen, puts};
+ghost use Rattle.pen.specs.Runs.{Run};
 ghost use Rattle.definition.specs.Quote.{digit, hex2, hex4, escaped};
 ghost use Rattle.definition.specs.Fold.{size, breakable, hasBreakable};
 ghost use Rattle.laws.specs.Pieces.{isC1, isNon, doublePiece, doubleMore, singlePiece, quoteBy, body};
 ghost use Rattle.laws.specs.Folded.{aheadOf, foldedOf};
-ghost use Rattle.quoted.specs.Piece.{spell, beside, letterOf, sound, Written, Stands, Own, Run, Further, Measured, Passing, Onward, folding};
+ghost use Rattle.quoted.specs.Piece.{spell, beside, letterOf, sound, Written, Stands, Own, Further, Measured, Passing, Onward, folding};
 ghost use Rattle.definition.specs.Settings.{folds};
 ghost use Rattle.definition.specs.Scalar.{quoteOf};
 ghost use Rattle.laws.specs.Leaf.{quotedAt, foldedAt, styledAt};
@@ -255,7 +256,7 @@ fn is_own(a: u8, stop: u8, single: bool) -> bool
 // Where the bytes that are written as they are end, from a place on.
 fn run_end(t: &[u8], from: usize, stop: u8, single: bool) -> usize
     requires { ⌜ from ≤ length (now t) ⌝ }
-    ensures { λ r. ⌜ Run (quoteBy single) stop (now (t .entry)) from r ⌝ }
+    ensures { λ r. ⌜ Run (Own (quoteBy single) stop) (now (t .entry)) from r ⌝ }
 {
     let mut i = from;
     while i < t.len() {

@@ -4,8 +4,8 @@ use borrow.Author.Needs.{needs}
 use Prim.Native.Nat.{_-_}
 use lib.ListN.{length}
 use Rattle.laws.specs.Pieces.{quoteBy}
-use Rattle.quoted.specs.Piece.{Run}
-use Rattle.quoted.proofs.Laws.{run-start, run-on}
+use Rattle.pen.specs.Runs.{Run, run-start, run-on}
+use Rattle.quoted.specs.Piece.{Own}
 use Rattle.quoted.proofs.run_end.Statement.{statement}
 use Rattle.quoted.proofs.run_end.Tie as tie
 use Rattle.quoted.proofs.run_end.Reads as reads
@@ -13,14 +13,14 @@ use Rattle.quoted.proofs.run_end.Lts as lts
 use Rattle.quoted.proofs.is_own.Reads as is-own-reads
 
 abbrev Inv-loop : tie.InvT-loop
-Inv-loop t from stop single i₀ i = Run (quoteBy single) stop t from i
+Inv-loop t from stop single i₀ i = Run (Own (quoteBy single) stop) t from i
 
 abbrev μ-loop : tie.MeasureT-loop
 μ-loop t from stop single i₀ i = length t - i
 
 -- src/lib.rt:261:5
 loop-holds : tie.Need-loop-holds Inv-loop μ-loop
-loop-holds c = run-start _ _ _ _ (c .before .pre)
+loop-holds c = run-start _ _ _ (c .before .pre)
 
 -- src/lib.rt:262:20
 shared-slice-read-is-own : tie.Need-shared-slice-read-is-own Inv-loop μ-loop
@@ -44,7 +44,7 @@ loop-less c = search needs
 
 -- src/lib.rt:261:5
 loop-again : tie.Need-loop-again Inv-loop μ-loop
-loop-again c = run-on _ _ _ _ _ (c .before .before .before .before .loop .inv) (c .before .before .before .loop-test .taken) (c .before .is-own .ensures (not-false _ (c .if1 .left)))
+loop-again c = run-on _ _ _ _ (c .before .before .before .before .loop .inv) (c .before .before .before .loop-test .taken) (c .before .is-own .ensures (not-false _ (c .if1 .left)))
 
 -- src/lib.rt:256:1
 returns-2 : tie.Need-returns-2 Inv-loop μ-loop
