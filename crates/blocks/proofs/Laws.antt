@@ -10,6 +10,8 @@ use lib.Seq.{drop-cons}
 use lib.Dec.{eqb}
 use borrow.Author.Tests.{eq-eqb, ne-eqb}
 use Rattle.pen.specs.Pen.{Pen, put1, puts, puts-append, and-then}
+use Rattle.pen.specs.Runs.{Run, parted, run-length}
+use Rattle.laws.specs.Tests.{Every, more}
 use Rattle.definition.specs.Base.{Bytes, if_then_else_, spaces}
 use Rattle.definition.specs.Block.{trailing, trimmed, chomping, indented, beyond, blockHeader, blockBody}
 use Rattle.laws.specs.Trim.{counted, trimmed-take, nothing-left, something-left}
@@ -24,25 +26,31 @@ module _ (n : ℕ) (s : Bytes) (i : ℕ) (h : i < length s) where
   line-broken fresh P P₁ e w =
       rw w (along (λ x a t. a ≡ 10 → puts (indented n true t) (put1 P 10) ≡ puts (indented n fresh x) P) s i h (λ a t e. rw (eq-eqb a 10 e)) e)
 
-  pub line-begun : (fresh : Bool) (P P₁ P₂ : Pen) → fresh ≡ true → (getD s i 0 ≡ 10 → ⊥) → P₁ ≡ puts (spaces n) P → P₂ ≡ put1 P₁ (getD s i 0)
-      → puts (indented n false (drop (i + 1) s)) P₂ ≡ puts (indented n fresh (drop i s)) P
-  unfolding indented puts
-  line-begun fresh P P₁ P₂ g e w v =
-      rw (v, w, g)
-      (along (λ x a t. (a ≡ 10 → ⊥) → puts (indented n false t) (put1 (puts (spaces n) P) a) ≡ puts (indented n true x) P) s i h
-      (λ a t e. rw (ne-eqb a 10 e) (sym (puts-append (spaces n) (a ∷ indented n false t) P))) e)
-
-  pub line-on : (fresh : Bool) (P P₁ : Pen) → fresh ≡ false → (getD s i 0 ≡ 10 → ⊥) → P₁ ≡ put1 P (getD s i 0)
-      → puts (indented n false (drop (i + 1) s)) P₁ ≡ puts (indented n fresh (drop i s)) P
-  unfolding indented puts
-  line-on fresh P P₁ g e v =
-      rw (v, g)
-      (along (λ x a t. (a ≡ 10 → ⊥) → puts (indented n false t) (put1 P a) ≡ puts (indented n false x) P) s i h
-      (λ a t e. rw (ne-eqb a 10 e)) e)
-
   pub counted-on : (m r z : ℕ) → r ≡ (if eqb (getD s i 0) 10 then m + 1 else 0) → counted m (drop i s) ≡ z → counted r (drop (i + 1) s) ≡ z
   unfolding counted
   counted-on m r z e g = rw e (along (λ x a t. counted m x ≡ z → counted (if eqb a 10 then m + 1 else 0) t ≡ z) s i h (λ a t g. g) g)
+
+-- bytes without a line break
+line-own : (n : ℕ) (fresh : Bool) (x y : Bytes) → Every (λ a. (a ≡ 10 → ⊥)) x → 0 < length x → indented n fresh (x ++ y) ≡ (if fresh then spaces n else []) ++ (x ++ indented n false y)
+unfolding indented
+line-own n fresh [] y ps h = absurd (omega arith)
+line-own n fresh (a ∷ []) y (more p ps) h = rw (ne-eqb a 10 p)
+line-own n fresh (a ∷ b ∷ x) y (more p ps) h = rw (ne-eqb a 10 p, line-own n false (b ∷ x) y ps (omega arith))
+
+module _ (n : ℕ) (s : Bytes) (i j : ℕ) (r : Run (λ a. (a ≡ 10 → ⊥)) s i j) (h : i < j) where
+  line-run : (fresh : Bool) → indented n fresh (drop i s) ≡ (if fresh then spaces n else []) ++ (take (j - i) (drop i s) ++ indented n false (drop j s))
+  line-run fresh =
+      ap (indented n fresh) (parted s i j (r .on))
+      ∙ line-own n fresh (take (j - i) (drop i s)) (drop j s) (r .each) (rw (run-length (λ a. (a ≡ 10 → ⊥)) s i j r) (omega arith))
+
+  pub line-begun : (fresh : Bool) (P P₁ P₂ : Pen) → fresh ≡ true → P₁ ≡ puts (spaces n) P → P₂ ≡ puts (take (j - i) (drop i s)) P₁
+      → puts (indented n false (drop j s)) P₂ ≡ puts (indented n fresh (drop i s)) P
+  line-begun fresh P P₁ P₂ g w v =
+      rw (v, w, g, line-run true) (sym (puts-append (spaces n) _ P ∙ puts-append (take (j - i) (drop i s)) _ (puts (spaces n) P)))
+
+  pub line-on : (fresh : Bool) (P P₁ : Pen) → fresh ≡ false → P₁ ≡ puts (take (j - i) (drop i s)) P
+      → puts (indented n false (drop j s)) P₁ ≡ puts (indented n fresh (drop i s)) P
+  line-on fresh P P₁ g v = rw (v, g, line-run false) (sym (puts-append (take (j - i) (drop i s)) _ P))
 
 pub counted-le : (b m r : ℕ) → r ≡ (if eqb b 10 then m + 1 else 0) → r ≤ m + 1
 counted-le b m r e = rw e (go (eqb b 10))
@@ -50,11 +58,6 @@ counted-le b m r e = rw e (go (eqb b 10))
     go : (t : Bool) → (if t then m + 1 else 0) ≤ m + 1
     go true = omega arith
     go false = omega arith
-
-pub breaks-turn : (k : ℕ) (P P' Z : Pen) → 0 < k → P' ≡ put1 P 10 → puts (replicate k 10) P ≡ Z → puts (replicate (k - 1) 10) P' ≡ Z
-unfolding puts
-breaks-turn zero P P' Z h e inv = absurd (omega arith)
-breaks-turn (suc k) P P' Z h e inv = let s : suc k - 1 ≡ k = omega arith in rw (s, e) inv
 
 many : (t : ℕ) → 1 < t → (x : Bytes) → chomping t x ≡ 43 ∷ []
 unfolding chomping

@@ -2,42 +2,62 @@
 ghost use mathlib.Core.Path.{_≡_};
 ghost use mathlib.Core.Bool.{true, false};
 ghost use Prim.Native.Nat.{_+_, _^_, _≤_, _<_};
-ghost use lib.ListN.{length, drop, replicate};
+ghost use lib.ListN.{length, getD, drop};
 ghost use lib.Dec.{eqb};
 ghost use Rattle.pen.specs.Pen.{pen, puts};
+ghost use Rattle.pen.specs.Runs.{Run};
 ghost use Rattle.definition.specs.Base.{if_then_else_};
 ghost use Rattle.definition.specs.Block.{trailing, indented, blockHeader, blockBody};
 use pen::Writer;
 
-// On the way through a text: whether a line begins here.
+// Where the line ends that goes on from a place.
+fn line_end(t: &[u8], from: usize) -> usize
+    requires { ⌜ (from < length (now t)) × (getD (now t) from 0 ≡ 10 → ⊥) ⌝ }
+    ensures { λ r. ⌜ Run (λ a. (a ≡ 10 → ⊥)) (now (t .entry)) from r × (from < r) ⌝ }
+{
+    let mut i = from + 1;
+    while i < t.len() {
+        if t[i] == b'\n' {
+            return i;
+        }
+        i += 1;
+    }
+    i
+}
+
+// On the way through a text: the place, and whether a line begins here.
 pub struct Going {
     pub w: Writer,
+    pub at: usize,
     pub fresh: bool,
 }
 
-// One byte of the text.
+// A line break, or the rest of a line.
 fn line_turn(g: Going, out: &mut [u8], t: &[u8], i: usize, indent: usize) -> Going
     requires { ⌜ (i < length (now t)) × (length (now out) < 2 ^ 62) ⌝ }
-    ensures { λ r. ⌜ puts (indented indent (r .fresh) (drop (i + 1) (now (t .entry)))) (pen (r .w) (now (out .exit)))
-        ≡ puts (indented indent (g .fresh) (drop i (now (t .entry)))) (pen (g .w) (now (out .entry))) ⌝ }
+    ensures { λ r. ⌜ (puts (indented indent (r .fresh) (drop (r .at) (now (t .entry)))) (pen (r .w) (now (out .exit)))
+        ≡ puts (indented indent (g .fresh) (drop i (now (t .entry)))) (pen (g .w) (now (out .entry)))) × (i < r .at) ⌝ }
 {
     let w = g.w;
-    let b = t[i];
-    if b == b'\n' {
+    if t[i] == b'\n' {
         return Going {
             w: w.byte(out, b'\n'),
+            at: i + 1,
             fresh: true,
         };
     }
+    let j = line_end(t, i);
     if g.fresh {
         let w = w.spaces(out, indent);
         return Going {
-            w: w.byte(out, b),
+            w: w.text(out, &t[i..j]),
+            at: j,
             fresh: false,
         };
     }
     Going {
-        w: w.byte(out, b),
+        w: w.text(out, &t[i..j]),
+        at: j,
         fresh: false,
     }
 }
@@ -47,27 +67,18 @@ fn put_lines(w: Writer, out: &mut [u8], t: &[u8], indent: usize) -> Writer
     requires { ⌜ length (now out) < 2 ^ 62 ⌝ }
     ensures { λ r. ⌜ pen r (now (out .exit)) ≡ puts (indented indent true (now (t .entry))) (pen w (now (out .entry))) ⌝ }
 {
-    let mut g = Going { w: w, fresh: true };
-    let mut i = 0;
-    while i < t.len() {
+    let fresh = true;
+    let mut g = Going {
+        w: w,
+        at: 0,
+        fresh: fresh,
+    };
+    while g.at < t.len() {
+        let i = g.at;
         g = line_turn(g, out, t, i, indent);
-        i += 1;
     }
     let w = g.w;
     w.byte(out, b'\n')
-}
-
-fn put_breaks(w: Writer, out: &mut [u8], n: usize) -> Writer
-    requires { ⌜ length (now out) < 2 ^ 62 ⌝ }
-    ensures { λ r. ⌜ pen r (now (out .exit)) ≡ puts (replicate n 10) (pen w (now (out .entry))) ⌝ }
-{
-    let mut w = w;
-    let mut left = n;
-    while left > 0 {
-        w = w.byte(out, b'\n');
-        left -= 1;
-    }
-    w
 }
 
 fn count_turn(n: usize, b: u8) -> usize
@@ -122,7 +133,7 @@ pub fn put_block_body(w: Writer, out: &mut [u8], t: &[u8], indent: usize) -> Wri
     let w = w.byte(out, b'\n');
     let w = put_lines(w, out, &t[0..end], indent);
     if ends > 1 {
-        return put_breaks(w, out, ends - 1);
+        return w.again(out, b'\n', ends - 1);
     }
     w
 }

@@ -27,6 +27,11 @@ pen w o = record { w = w; out = o }
 unfoldable pub columnAfter : Writer → ℕ → ℕ → ℕ
 columnAfter w most b = if eqb (w .tracks) 0 then w .column else if eqb b LF then 0 else min (w .column + 1) most
 
+-- the column after a text that begins at a column, where `k` says whether columns are kept
+unfoldable pub columnOver : ℕ → ℕ → ℕ → Bytes → ℕ
+columnOver k most c [] = c
+columnOver k most c (b ∷ t) = columnOver k most (if eqb k 0 then c else if eqb b LF then 0 else min (c + 1) most) t
+
 -- one byte: stored where there is room, else only counted
 unfoldable pub put1 : Pen → ℕ → Pen
 put1 p b =

@@ -1,12 +1,14 @@
 // The pen: a writer by value over a lent slice. It stores only inside the room, and counts two past it at most, so that whether the
 // finished bytes fit is known also where the last line break is dropped again.
 ghost use mathlib.Core.Path.{_≡_};
-ghost use Prim.Native.Nat.{_+_, _<_, _^_, min, max};
+ghost use Prim.Native.Nat.{_+_, _<_, _≤_, _^_, min, max};
 ghost use lib.ListN.{length, replicate};
-ghost use mathlib.Core.Bool.{Bool};
-ghost use Rattle.definition.specs.Base.{spaces};
+ghost use lib.Seq.{sets};
+ghost use mathlib.Core.Bool.{Bool, true};
+ghost use lib.Dec.{eqb};
+ghost use Rattle.definition.specs.Base.{if_then_else_, spaces};
 ghost use Rattle.definition.specs.Pen.{hashed, endsClosed};
-ghost use Rattle.pen.specs.Pen.{pen, put1, puts, columnAfter, lineEnded, noted, rawed, unput, ended};
+ghost use Rattle.pen.specs.Pen.{pen, put1, puts, columnAfter, columnOver, lineEnded, noted, rawed, unput, ended};
 
 // `len`: how many bytes were put, at most the room and two. `last`: the byte put last, 0 at the start. `under`: what that byte was put over, 0
 // past the room. `column`: the columns since the last line break, at most the room and two; it is kept only where `tracks` is not 0.
@@ -41,6 +43,88 @@ fn up_to(n: usize, most: usize) -> usize
     most
 }
 
+// The column after a byte that was at `column` before it.
+fn next_column(column: usize, most: usize, b: u8) -> usize
+    requires { ⌜ most < 2 ^ 63 ⌝ }
+    ensures { λ r. ⌜ r ≡ (if eqb b 10 then 0 else min (column + 1) most) ⌝ }
+{
+    if b == b'\n' {
+        return 0;
+    }
+    up_to(column, most)
+}
+
+// The column after a text.
+fn column_over(tracks: usize, column: usize, most: usize, t: &[u8]) -> usize
+    requires { ⌜ most < 2 ^ 63 ⌝ }
+    ensures { λ r. ⌜ r ≡ columnOver tracks most column (now (t .entry)) ⌝ }
+{
+    if tracks == 0 {
+        return column;
+    }
+    let mut c = column;
+    let mut i = 0;
+    while i < t.len() {
+        c = next_column(c, most, t[i]);
+        i += 1;
+    }
+    c
+}
+
+// The column after one byte again and again.
+fn column_again(tracks: usize, column: usize, most: usize, b: u8, n: usize) -> usize
+    requires { ⌜ most < 2 ^ 63 ⌝ }
+    ensures { λ r. ⌜ r ≡ columnOver tracks most column (replicate n b) ⌝ }
+{
+    if tracks == 0 {
+        return column;
+    }
+    let mut c = column;
+    let mut left = n;
+    while left > 0 {
+        c = next_column(c, most, b);
+        left -= 1;
+    }
+    c
+}
+
+// Whether `n` bytes, at least one, fit from `len` on.
+fn has_room(len: usize, n: usize, room: usize) -> bool
+    ensures { λ r. ⌜ (r ≡ true → (0 < n) × (len + n ≤ room)) ⌝ }
+{
+    if n == 0 {
+        return false;
+    }
+    if len > room {
+        return false;
+    }
+    n <= room - len
+}
+
+// Copies a text to a place.
+fn copy_to(out: &mut [u8], at: usize, t: &[u8])
+    requires { ⌜ (at + length (now t) ≤ length (now out)) × (length (now out) < 2 ^ 62) ⌝ }
+    ensures { λ r. ⌜ now (out .exit) ≡ sets (now (out .entry)) at (now (t .entry)) ⌝ }
+{
+    let mut i = 0;
+    while i < t.len() {
+        out[at + i] = t[i];
+        i += 1;
+    }
+}
+
+// Stores one byte again and again from a place.
+fn fill(out: &mut [u8], at: usize, b: u8, n: usize)
+    requires { ⌜ (at + n ≤ length (now out)) × (length (now out) < 2 ^ 62) ⌝ }
+    ensures { λ r. ⌜ now (out .exit) ≡ sets (now (out .entry)) at (replicate n b) ⌝ }
+{
+    let mut i = 0;
+    while i < n {
+        out[at + i] = b;
+        i += 1;
+    }
+}
+
 impl Writer {
     // The column after a byte.
     fn column_after(self, most: usize, b: u8) -> usize
@@ -50,10 +134,7 @@ impl Writer {
         if self.tracks == 0 {
             return self.column;
         }
-        if b == b'\n' {
-            return 0;
-        }
-        up_to(self.column, most)
+        next_column(self.column, most, b)
     }
 
     pub fn byte(mut self, out: &mut [u8], b: u8) -> Self
@@ -75,7 +156,24 @@ impl Writer {
         self
     }
 
-    pub fn text(self, out: &mut [u8], t: &[u8]) -> Self
+    // A text that has room.
+    fn text_at_once(mut self, out: &mut [u8], t: &[u8]) -> Self
+        requires { ⌜ (0 < length (now t)) × (self .len + length (now t) ≤ length (now out)) × (length (now out) < 2 ^ 62) ⌝ }
+        ensures { λ r. ⌜ pen r (now (out .exit)) ≡ puts (now (t .entry)) (pen self (now (out .entry))) ⌝ }
+    {
+        let len = self.len;
+        let n = t.len();
+        let end = len + n;
+        self.column = column_over(self.tracks, self.column, out.len() + 2, t);
+        self.last = wide(t[n - 1]);
+        self.under = wide(out[end - 1]);
+        self.len = end;
+        copy_to(out, len, t);
+        self
+    }
+
+    // A text byte by byte.
+    fn text_by_bytes(self, out: &mut [u8], t: &[u8]) -> Self
         requires { ⌜ length (now out) < 2 ^ 62 ⌝ }
         ensures { λ r. ⌜ pen r (now (out .exit)) ≡ puts (now (t .entry)) (pen self (now (out .entry))) ⌝ }
     {
@@ -88,8 +186,33 @@ impl Writer {
         w
     }
 
-    // One byte again and again.
-    pub fn again(self, out: &mut [u8], b: u8, n: usize) -> Self
+    pub fn text(self, out: &mut [u8], t: &[u8]) -> Self
+        requires { ⌜ length (now out) < 2 ^ 62 ⌝ }
+        ensures { λ r. ⌜ pen r (now (out .exit)) ≡ puts (now (t .entry)) (pen self (now (out .entry))) ⌝ }
+    {
+        let n = t.len();
+        if has_room(self.len, n, out.len()) {
+            return self.text_at_once(out, t);
+        }
+        self.text_by_bytes(out, t)
+    }
+
+    // One byte again and again, where there is room.
+    fn again_at_once(mut self, out: &mut [u8], b: u8, n: usize) -> Self
+        requires { ⌜ (0 < n) × (self .len + n ≤ length (now out)) × (length (now out) < 2 ^ 62) ⌝ }
+        ensures { λ r. ⌜ pen r (now (out .exit)) ≡ puts (replicate n b) (pen self (now (out .entry))) ⌝ }
+    {
+        let len = self.len;
+        let end = len + n;
+        self.column = column_again(self.tracks, self.column, out.len() + 2, b, n);
+        self.last = wide(b);
+        self.under = wide(out[end - 1]);
+        self.len = end;
+        fill(out, len, b, n);
+        self
+    }
+
+    fn again_by_bytes(self, out: &mut [u8], b: u8, n: usize) -> Self
         requires { ⌜ length (now out) < 2 ^ 62 ⌝ }
         ensures { λ r. ⌜ pen r (now (out .exit)) ≡ puts (replicate n b) (pen self (now (out .entry))) ⌝ }
     {
@@ -100,6 +223,17 @@ impl Writer {
             left -= 1;
         }
         w
+    }
+
+    // One byte again and again.
+    pub fn again(self, out: &mut [u8], b: u8, n: usize) -> Self
+        requires { ⌜ length (now out) < 2 ^ 62 ⌝ }
+        ensures { λ r. ⌜ pen r (now (out .exit)) ≡ puts (replicate n b) (pen self (now (out .entry))) ⌝ }
+    {
+        if has_room(self.len, n, out.len()) {
+            return self.again_at_once(out, b, n);
+        }
+        self.again_by_bytes(out, b, n)
     }
 
     pub fn spaces(self, out: &mut [u8], n: usize) -> Self

@@ -3,21 +3,22 @@ use Prim.Native.Nat.{ℕ, zero, suc, _+_, _-_, _≤_, _<_}
 use native.Mathlib.Omega.{arith}
 use native.Mathlib.Numerals.{add-one}
 use mathlib.Core.Path.{_≡_, refl, sym, ap, _∙_}
-use mathlib.Core.Bool.{Bool, true, false, true≢false, false≢true}
+use mathlib.Core.Bool.{Bool, true, false, true≢false, false≢true, not}
 use mathlib.Core.List.{[], _∷_, _++_}
-use lib.ListN.{length, getD, drop}
-use lib.Seq.{drop-cons, getD-drop}
+use lib.ListN.{length, getD, drop, take}
+use lib.Seq.{drop-cons, drop-drop, getD-drop}
 use lib.Dec.{ltb, leb, eqb}
-use borrow.Author.Tests.{eqb-true, eq-eqb, ne-eqb, lt-ltb, le-ltb, le-leb, lt-leb, leb-true}
+use borrow.Author.Tests.{eqb-true, eq-eqb, ne-eqb, ltb-true, lt-ltb, le-ltb, le-leb, lt-leb, leb-true, not-true}
 use Rattle.pen.specs.Pen.{Pen, put1, puts, puts-append}
+use Rattle.pen.specs.Runs.{Run, parted}
 use Rattle.definition.specs.Base.{Bytes, if_then_else_, within}
 use Rattle.definition.specs.Char.{nonPrintable}
 use Rattle.definition.specs.Quote.{digit, hex2, hex4, escaped}
-use Rattle.laws.specs.Tests.{is-within, below-it, above-it}
+use Rattle.laws.specs.Tests.{is-within, below-it, above-it, by-test, Every, none, more}
 use Rattle.laws.specs.Numbers.{not-c1, not-non, non-is}
 use Rattle.laws.specs.Pieces.{Quote, isC1, isNon, doublePiece, doubleMore, singlePiece, quoteBy, body}
 use Rattle.laws.specs.Computed.{below, all, apply, equal, equal-is}
-use Rattle.quoted.specs.Piece.{spell, beside, letterOf, sound, Written, Stands}
+use Rattle.quoted.specs.Piece.{spell, beside, letterOf, sound, Written, Stands, Own}
 use Rattle.quoted.specs.declared.Piece.{Piece}
 use Rattle.quoted.specs.declared.Piece.the-variants.{Plain, Pair, Hex, Latin, Wide}
 
@@ -135,25 +136,72 @@ wide-digits c l h =
     (apply (leb 0xbe c) (equal (hex4 (0xff40 + c)) (hex2 0xff ++ hex2 (c + 0x40)))
     (all (λ k. if leb 0xbe k then equal (hex4 (0xff40 + k)) (hex2 0xff ++ hex2 (k + 0x40)) else true) 0xc0 refl c (omega arith)) (le-leb 0xbe c l))
 
--- a byte that was spoken for is passed over
-pub skips : (q : Quote) (s : Bytes) (i k : ℕ) (P Z : Pen) → i < length s → 0 < k → puts (body q k (drop i s)) P ≡ Z → puts (body q (k - 1) (drop (i + 1) s)) P ≡ Z
+pub beside-few : (p : Piece) → beside p ≤ 2
+beside-few (Plain a) = omega arith
+beside-few (Pair a b) = omega arith
+beside-few (Hex a) = omega arith
+beside-few (Latin b) = omega arith
+beside-few (Wide c) = omega arith
+
+-- bytes that were spoken for are passed over
+body-skip : (q : Quote) (k : ℕ) (s : Bytes) → body q k s ≡ body q 0 (drop k s)
 unfolding body
-skips q s i zero P Z h n e = absurd (omega arith)
-skips q s i (suc k) P Z h n e = let m : suc k - 1 ≡ k = omega arith in rw (m, add-one) (rw (drop-cons s i 0 h) at e)
+body-skip q zero s = refl
+body-skip q (suc k) [] = refl
+body-skip q (suc k) (a ∷ s) = body-skip q k s
 
 -- a piece is written
-pub turn : (q : Quote) (s : Bytes) (i n : ℕ) (p : Piece) (P P′ Z : Pen) → i < length s → Stands q (drop i s) p → P′ ≡ puts (spell p) P → n ≡ beside p
-    → puts (body q 0 (drop i s)) P ≡ Z → puts (body q n (drop (i + 1) s)) P′ ≡ Z
+pub turn : (q : Quote) (s : Bytes) (i n : ℕ) (p : Piece) (P P′ : Pen) → i < length s → Stands q (drop i s) p → P′ ≡ puts (spell p) P → n ≡ beside p
+    → puts (body q 0 (drop (i + 1 + n) s)) P′ ≡ puts (body q 0 (drop i s)) P
 unfolding body
-turn q s i n p P P′ Z h st w m e =
+turn q s i n p P P′ h st w m =
     let d : drop i s ≡ getD s i 0 ∷ drop (suc i) s = drop-cons s i 0 h in
     let a : spell p ≡ q .piece (getD s i 0) (getD (drop (suc i) s) 0 0) (getD (drop (suc i) s) 1 0) = rw d at (st .spelled) in
     let b : beside p ≡ q .more (getD s i 0) (getD (drop (suc i) s) 0 0) (getD (drop (suc i) s) 1 0) = rw d at (st .speaks) in
-    let g : puts (q .piece (getD s i 0) (getD (drop (suc i) s) 0 0) (getD (drop (suc i) s) 1 0) ++ body q (q .more (getD s i 0) (getD (drop (suc i) s) 0 0) (getD (drop (suc i) s) 1 0)) (drop (suc i) s)) P ≡ Z = rw d at e in
-    rw (add-one, m, b, w, a, ← puts-append) g
+    rw (← drop-drop n (i + 1) s, ← body-skip, add-one, m, w, d, ← a, ← b, puts-append)
 
-pub zero-of : {n : ℕ} → n ≤ 0 → n ≡ 0
-zero-of h = omega arith
+-- ---- bytes that are written as they are
+
+body-own : (q : Quote) (stop : ℕ) (x y : Bytes) → Every (Own q stop) x → body q 0 (x ++ y) ≡ x ++ body q 0 y
+unfolding body
+body-own q stop [] y none = refl
+body-own q stop (a ∷ x) y (more p ps) = rw (p .itself, p .alone) (ap (λ (r : Bytes). a ∷ r) (body-own q stop x y ps))
+
+pub run-written : (q : Quote) (stop : ℕ) (s : Bytes) (i j : ℕ) (P P′ : Pen) → Run (Own q stop) s i j → P′ ≡ puts (take (j - i) (drop i s)) P
+    → puts (body q 0 (drop j s)) P′ ≡ puts (body q 0 (drop i s)) P
+run-written q stop s i j P P′ r e =
+    rw e
+    (sym (puts-append (take (j - i) (drop i s)) (body q 0 (drop j s)) P)
+    ∙ ap (λ (x : Bytes). puts x P) (sym (body-own q stop (take (j - i) (drop i s)) (drop j s) (r .each)) ∙ ap (body q 0) (sym (parted s i j (r .on)))))
+
+pub own-single : (a stop : ℕ) (d : Bool) → (a ≡ stop → ⊥) → d ≡ true → not (eqb a 39) ≡ true → Own (quoteBy d) stop a
+unfolding singlePiece
+own-single a stop true n e t = record { itself = λ b c. rw (not-true (eqb a 39) t); alone = λ b c. refl; other = n }
+own-single a stop false n e t = absurd (false≢true e)
+
+-- a character below 80 that has no escape
+abbrev unescaped : ℕ → Bool
+unescaped a = if ltb a 0x20 then false else (if eqb a 34 then false else (if eqb a 92 then false else (if eqb a 0x7f then false else true)))
+
+ascii-own : (a : ℕ) → a < 0x80 → unescaped a ≡ true → escaped a (a ∷ []) ≡ a ∷ []
+unfolding escaped nonPrintable within digit hex2 hex4
+ascii-own a h e =
+    equal-is _ _
+    (apply (unescaped a) (equal (escaped a (a ∷ [])) (a ∷ []))
+    (all (λ k. if unescaped k then equal (escaped k (k ∷ [])) (k ∷ []) else true) 0x80 refl a h) e)
+
+pub own-double : (a stop : ℕ) (d : Bool) → (a ≡ stop → ⊥) → d ≡ false → 0x20 ≤ a → (a ≡ 34 → ⊥) → (a ≡ 92 → ⊥) → (a ≡ 0x7f → ⊥) → (a ≡ 0xc2 → ⊥) → not (eqb a 0xef) ≡ true
+    → Own (quoteBy d) stop a
+unfolding doublePiece doubleMore
+own-double a stop true n e l q k r c t = absurd (true≢false e)
+own-double a stop false n e l q k r c t =
+    let u : unescaped a ≡ true = rw (le-ltb a 0x20 l, ne-eqb a 34 q, ne-eqb a 92 k, ne-eqb a 0x7f r) in
+    let f : a ≡ 0xef → ⊥ = λ (e : a ≡ 0xef). true≢false (sym (eq-eqb a 0xef e) ∙ not-true (eqb a 0xef) t) in
+    record {
+      itself = λ b d. by-test (λ (x : Bytes). x ≡ a ∷ []) (ltb a 0x80) (λ h. ascii-own a (ltb-true a 0x80 h) u) (λ h. rw (not-c1 a b c, not-non a b d f));
+      alone = λ b d. by-test (λ (x : ℕ). x ≡ 0) (ltb a 0x80) (λ h. refl) (λ h. rw (not-c1 a b c, not-non a b d f));
+      other = n;
+    }
 
 -- a text between two quotes
 pub around : (q : ℕ) (x : Bytes) (P P₁ P₂ P₃ : Pen) → P₁ ≡ put1 P q → P₂ ≡ puts x P₁ → P₃ ≡ put1 P₂ q → P₃ ≡ puts (q ∷ (x ++ q ∷ [])) P

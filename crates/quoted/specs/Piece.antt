@@ -1,19 +1,20 @@
 -- What the program keeps of a piece of a quoted body: its kind; and the contracts of a turn of each loop.
-use Prim.Native.Nat.{ℕ, zero, suc, _+_, _^_, _≤_, _<_, max}
-use mathlib.Core.Bool.{Bool, true, false}
+use Prim.Native.Nat.{ℕ, _+_, _*_, _^_, _≤_, _<_, max}
 use mathlib.Core.Path.{_≡_}
 use lib.ListN.{getD, drop, length}
 use lib.Dec.{eqb}
 use mathlib.Core.List.{[], _∷_}
 use Rattle.definition.specs.Base.{Bytes, if_then_else_}
-use Rattle.laws.specs.Pieces.{Quote}
+use Rattle.laws.specs.Pieces.{Quote, body}
 use Rattle.definition.specs.Quote.{hex2, hex4}
-use Rattle.definition.specs.Fold.{Folding, breakable}
+use Rattle.definition.specs.Fold.{Folding}
 use Rattle.laws.specs.Folded.{aheadOf, foldedOf}
 use Rattle.pen.specs.Pen.{pen, puts}
+use Rattle.pen.specs.declared.Writer.{Writer}
 use Rattle.quoted.specs.declared.Piece.{Piece}
 use Rattle.quoted.specs.declared.Piece.the-variants.{Plain, Pair, Hex, Latin, Wide}
 use Rattle.quoted.specs.declared.Fold.{Fold}
+use Rattle.quoted.specs.declared.Going.{Going}
 use Rattle.quoted.specs.declared.Scan.{Scan}
 use Rattle.quoted.specs.declared.Line.{Line}
 
@@ -67,16 +68,23 @@ pub record Stands (q : Quote) (t : Bytes) (p : Piece) : Type 0 where
 abbrev pub folding : Fold → Folding
 folding f = record { weight = λ b. 1; indent = f .indent; width = f .width }
 
--- the next byte is a breakable space that was not spoken for
-unfoldable pub stops : ℕ → Bool → Bytes → Bool
-stops k after [] = false
-stops zero after (a ∷ s) = breakable after a s
-stops (suc k) after (a ∷ s) = false
+-- a byte that is written as it is, whatever stands after it, and is not `stop`
+pub record Own (q : Quote) (stop a : ℕ) : Type 0 where
+  pub itself : (b c : ℕ) → q .piece a b c ≡ a ∷ []
+  pub alone : (b c : ℕ) → q .more a b c ≡ 0
+  pub other : a ≡ stop → ⊥
+
+-- a turn: finishing from where it ends is finishing from where it began
+pub record Further (q : Quote) (s : Bytes) (i : ℕ) (w : Writer) (out : Bytes) (r : Going) (out′ : Bytes) : Type 0 where
+  pub same : puts (body q 0 (drop (r .at) s)) (pen (r .w) out′) ≡ puts (body q 0 (drop i s)) (pen w out)
+  pub on : i < r .at
 
 -- a turn of the measuring leaves the sum of what was measured and what is ahead
 pub record Measured (q : Quote) (s : Bytes) (i : ℕ) (g r : Scan) : Type 0 where
-  pub sum : r .n + aheadOf q (λ b. 1) (r .skip) (r .after) (drop (i + 1) s) ≡ g .n + aheadOf q (λ b. 1) (g .skip) (g .after) (drop i s)
-  pub grows : r .n ≤ g .n + 6
+  pub sum : r .n + aheadOf q (λ b. 1) 0 (r .after) (drop (r .at) s) ≡ g .n + aheadOf q (λ b. 1) 0 (g .after) (drop i s)
+  pub grows : r .n + 6 * i ≤ g .n + 6 * r .at
+  pub on : i < r .at
+  pub upto : r .at ≤ length s + 2
 
 -- where a turn of the folding may stand
 pub record Passing (s : Bytes) (i : ℕ) (l : Line) (out : Bytes) : Type 0 where
@@ -85,10 +93,11 @@ pub record Passing (s : Bytes) (i : ℕ) (l : Line) (out : Bytes) : Type 0 where
   pub near : l .col ≤ 2 ^ 63 + 2 ^ 20
   pub room : length out < 2 ^ 62
 
--- a turn of the folding: finishing from where it ends is finishing from where it began
+-- a turn of the folding
 pub record Onward (q : Quote) (f : Fold) (s : Bytes) (i : ℕ) (l : Line) (out : Bytes) (r : Line) (out′ : Bytes) : Type 0 where
   pub same :
-      puts (foldedOf q (folding f) (r .skip) (r .after) (r .col) (drop (i + 1) s)) (pen (r .w) out′)
-      ≡ puts (foldedOf q (folding f) (l .skip) (l .after) (l .col) (drop i s)) (pen (l .w) out)
-  pub grows : r .col ≤ max (l .col) (f .indent) + 6
+      puts (foldedOf q (folding f) 0 (r .after) (r .col) (drop (r .at) s)) (pen (r .w) out′)
+      ≡ puts (foldedOf q (folding f) 0 (l .after) (l .col) (drop i s)) (pen (l .w) out)
+  pub grows : r .col + 6 * i ≤ max (l .col) (f .indent) + 6 * r .at
+  pub on : i < r .at
   pub long : length out′ ≡ length out

@@ -5,11 +5,12 @@ ghost use Prim.Native.Nat.{_+_, _*_, _^_, _≤_, _<_};
 ghost use mathlib.Core.List.{[], _∷_};
 ghost use lib.ListN.{length, getD, drop};
 ghost use Rattle.pen.specs.Pen.{pen, puts};
+ghost use Rattle.pen.specs.Runs.{Run};
 ghost use Rattle.definition.specs.Quote.{digit, hex2, hex4, escaped};
 ghost use Rattle.definition.specs.Fold.{size, breakable, hasBreakable};
 ghost use Rattle.laws.specs.Pieces.{isC1, isNon, doublePiece, doubleMore, singlePiece, quoteBy, body};
 ghost use Rattle.laws.specs.Folded.{aheadOf, foldedOf};
-ghost use Rattle.quoted.specs.Piece.{spell, beside, letterOf, sound, Written, Stands, stops, Measured, Passing, Onward, folding};
+ghost use Rattle.quoted.specs.Piece.{spell, beside, letterOf, sound, Written, Stands, Own, Further, Measured, Passing, Onward, folding};
 ghost use Rattle.definition.specs.Settings.{folds};
 ghost use Rattle.definition.specs.Scalar.{quoteOf};
 ghost use Rattle.laws.specs.Leaf.{quotedAt, foldedAt, styledAt};
@@ -223,31 +224,89 @@ fn put_piece(w: Writer, out: &mut [u8], p: Piece) -> Writer
     }
 }
 
-// On the way through a text: `skip` bytes to come were spoken for by the piece written last.
-pub struct Going {
-    pub w: Writer,
-    pub skip: usize,
+// Whether the byte begins no escape and is not `stop`, so that it is written as it is. A byte that begins an escape only before certain
+// others counts as one that does.
+fn is_own(a: u8, stop: u8, single: bool) -> bool
+    ensures { λ r. ⌜ (r ≡ true → Own (quoteBy single) stop a) ⌝ }
+{
+    if a == stop {
+        return false;
+    }
+    if single {
+        return a != b'\'';
+    }
+    if a < 0x20 {
+        return false;
+    }
+    if a == b'"' {
+        return false;
+    }
+    if a == b'\\' {
+        return false;
+    }
+    if a == 0x7f {
+        return false;
+    }
+    if a == 0xc2 {
+        return false;
+    }
+    a != 0xef
 }
 
-// One byte of the text.
-fn body_turn(g: Going, out: &mut [u8], t: &[u8], i: usize, single: bool) -> Going
-    requires { ⌜ (i < length (now t)) × (length (now t) ≤ 65536) × (length (now out) < 2 ^ 62) ⌝ }
-    ensures { λ r. ⌜ puts (body (quoteBy single) (r .skip) (drop (i + 1) (now (t .entry)))) (pen (r .w) (now (out .exit)))
-        ≡ puts (body (quoteBy single) (g .skip) (drop i (now (t .entry)))) (pen (g .w) (now (out .entry))) ⌝ }
+// Where the bytes that are written as they are end, from a place on.
+fn run_end(t: &[u8], from: usize, stop: u8, single: bool) -> usize
+    requires { ⌜ from ≤ length (now t) ⌝ }
+    ensures { λ r. ⌜ Run (Own (quoteBy single) stop) (now (t .entry)) from r ⌝ }
 {
-    let skip = g.skip;
-    let w = g.w;
-    if skip > 0 {
-        return Going {
-            w: w,
-            skip: skip - 1,
-        };
+    let mut i = from;
+    while i < t.len() {
+        if !is_own(t[i], stop, single) {
+            return i;
+        }
+        i += 1;
     }
+    i
+}
+
+fn quote_of(single: bool) -> u8
+    ensures { λ r. ⌜ r ≡ quoteOf single ⌝ }
+{
+    if single {
+        return b'\'';
+    }
+    b'"'
+}
+
+// On the way through a text: the place of the next byte that nothing written speaks for.
+pub struct Going {
+    pub w: Writer,
+    pub at: usize,
+}
+
+// The piece for the byte at a place.
+fn piece_turn(w: Writer, out: &mut [u8], t: &[u8], i: usize, single: bool) -> Going
+    requires { ⌜ (i < length (now t)) × (length (now t) ≤ 65536) × (length (now out) < 2 ^ 62) ⌝ }
+    ensures { λ r. ⌜ Further (quoteBy single) (now (t .entry)) i w (now (out .entry)) r (now (out .exit)) ⌝ }
+{
     let p = piece_at(t, i, single);
-    let w = put_piece(w, out, p);
     Going {
-        w: w,
-        skip: others(p),
+        w: put_piece(w, out, p),
+        at: i + 1 + others(p),
+    }
+}
+
+// The bytes that are written as they are, or else one piece.
+fn body_turn(w: Writer, out: &mut [u8], t: &[u8], i: usize, single: bool) -> Going
+    requires { ⌜ (i < length (now t)) × (length (now t) ≤ 65536) × (length (now out) < 2 ^ 62) ⌝ }
+    ensures { λ r. ⌜ Further (quoteBy single) (now (t .entry)) i w (now (out .entry)) r (now (out .exit)) ⌝ }
+{
+    let j = run_end(t, i, quote_of(single), single);
+    if j == i {
+        return piece_turn(w, out, t, i, single);
+    }
+    Going {
+        w: w.text(out, &t[i..j]),
+        at: j,
     }
 }
 
@@ -256,11 +315,11 @@ pub fn put_body(w: Writer, out: &mut [u8], t: &[u8], single: bool) -> Writer
     requires { ⌜ (length (now t) ≤ 65536) × (length (now out) < 2 ^ 62) ⌝ }
     ensures { λ r. ⌜ pen r (now (out .exit)) ≡ puts (body (quoteBy single) 0 (now (t .entry))) (pen w (now (out .entry))) ⌝ }
 {
-    let mut g = Going { w: w, skip: 0 };
-    let mut i = 0;
-    while i < t.len() {
-        g = body_turn(g, out, t, i, single);
-        i += 1;
+    let mut g = Going { w: w, at: 0 };
+    while g.at < t.len() {
+        let w = g.w;
+        let i = g.at;
+        g = body_turn(w, out, t, i, single);
     }
     g.w
 }
@@ -299,77 +358,67 @@ pub fn has_breakable(t: &[u8]) -> bool
     false
 }
 
-// Measuring ahead: the columns so far, the bytes to come that were spoken for, and whether a space, or nothing, was passed last.
+// Measuring ahead: the columns so far, the place, and whether a space, or nothing, was passed last.
 pub struct Scan {
     pub n: usize,
-    pub skip: usize,
+    pub at: usize,
     pub after: bool,
 }
 
-fn scan_stops(g: Scan, t: &[u8], i: usize) -> bool
-    requires { ⌜ i < length (now t) ⌝ }
-    ensures { λ r. ⌜ r ≡ stops (g .skip) (g .after) (drop i (now (t .entry))) ⌝ }
-{
-    if g.skip > 0 {
-        return false;
-    }
-    breakable_at(t, i, g.after)
-}
-
+// The bytes up to a space or an escape, or else one piece.
 fn scan_turn(g: Scan, t: &[u8], i: usize, single: bool) -> Scan
-    requires { ⌜ (i < length (now t)) × (length (now t) ≤ 65536) × (g .n ≤ 2 ^ 20) × (stops (g .skip) (g .after) (drop i (now t)) ≡ false) ⌝ }
+    requires { ⌜ (i < length (now t)) × (length (now t) ≤ 65536) × (g .n ≤ 2 ^ 20) ⌝ }
+    requires { ⌜ breakable (g .after) (getD (now t) i 0) (drop (i + 1) (now t)) ≡ false ⌝ }
     ensures { λ r. ⌜ Measured (quoteBy single) (now (t .entry)) i g r ⌝ }
 {
-    let skip = g.skip;
-    if skip > 0 {
+    let j = run_end(t, i, b' ', single);
+    if j == i {
+        let p = piece_at(t, i, single);
         return Scan {
-            n: g.n,
-            skip: skip - 1,
-            after: g.after,
+            n: g.n + columns(p),
+            at: i + 1 + others(p),
+            after: t[i] == b' ',
         };
     }
-    let p = piece_at(t, i, single);
     Scan {
-        n: g.n + columns(p),
-        skip: others(p),
-        after: t[i] == b' ',
+        n: g.n + (j - i),
+        at: j,
+        after: false,
     }
 }
 
 // The columns of the body from a place up to the next breakable space.
 fn ahead(t: &[u8], from: usize, single: bool) -> usize
     requires { ⌜ (from ≤ length (now t)) × (length (now t) ≤ 65536) ⌝ }
-    ensures { λ r. ⌜ (r ≡ aheadOf (quoteBy single) (λ b. 1) 0 true (drop from (now (t .entry)))) × (r ≤ 6 * length (now (t .entry))) ⌝ }
+    ensures { λ r. ⌜ (r ≡ aheadOf (quoteBy single) (λ b. 1) 0 true (drop from (now (t .entry)))) × (r ≤ 6 * length (now (t .entry)) + 12) ⌝ }
 {
     let mut g = Scan {
         n: 0,
-        skip: 0,
+        at: from,
         after: true,
     };
-    let mut i = from;
-    while i < t.len() {
-        if scan_stops(g, t, i) {
+    while g.at < t.len() {
+        let i = g.at;
+        if breakable_at(t, i, g.after) {
             return g.n;
         }
         g = scan_turn(g, t, i, single);
-        i += 1;
     }
     g.n
 }
 
-// On the way through a text that is folded: the column, the bytes to come that were spoken for, and whether a space, or
-// nothing, was passed last.
+// On the way through a text that is folded: the column, the place, and whether a space, or nothing, was passed last.
 pub struct Line {
     pub w: Writer,
     pub col: usize,
-    pub skip: usize,
+    pub at: usize,
     pub after: bool,
 }
 
 // A breakable space: kept where the next piece still fits the line.
 fn fold_gap(l: Line, out: &mut [u8], t: &[u8], i: usize, single: bool, f: Fold) -> Line
     requires { ⌜ Passing (now t) i l (now out) ⌝ }
-    requires { ⌜ (l .skip ≡ 0) × (breakable (l .after) (getD (now t) i 0) (drop (i + 1) (now t)) ≡ true) ⌝ }
+    requires { ⌜ breakable (l .after) (getD (now t) i 0) (drop (i + 1) (now t)) ≡ true ⌝ }
     ensures { λ r. ⌜ Onward (quoteBy single) f (now (t .entry)) i l (now (out .entry)) r (now (out .exit)) ⌝ }
 {
     let need = l.col + 1 + ahead(t, i + 1, single);
@@ -380,7 +429,7 @@ fn fold_gap(l: Line, out: &mut [u8], t: &[u8], i: usize, single: bool, f: Fold) 
         return Line {
             w: w,
             col: f.indent,
-            skip: 0,
+            at: i + 1,
             after: true,
         };
     }
@@ -388,15 +437,15 @@ fn fold_gap(l: Line, out: &mut [u8], t: &[u8], i: usize, single: bool, f: Fold) 
     Line {
         w: w,
         col: l.col + 1,
-        skip: 0,
+        at: i + 1,
         after: true,
     }
 }
 
-// Anything else: its piece.
+// Anything else that is not written as it is: its piece.
 fn fold_piece(l: Line, out: &mut [u8], t: &[u8], i: usize, single: bool, f: Fold) -> Line
     requires { ⌜ Passing (now t) i l (now out) ⌝ }
-    requires { ⌜ (l .skip ≡ 0) × (breakable (l .after) (getD (now t) i 0) (drop (i + 1) (now t)) ≡ false) ⌝ }
+    requires { ⌜ breakable (l .after) (getD (now t) i 0) (drop (i + 1) (now t)) ≡ false ⌝ }
     ensures { λ r. ⌜ Onward (quoteBy single) f (now (t .entry)) i l (now (out .entry)) r (now (out .exit)) ⌝ }
 {
     let p = piece_at(t, i, single);
@@ -405,24 +454,24 @@ fn fold_piece(l: Line, out: &mut [u8], t: &[u8], i: usize, single: bool, f: Fold
     Line {
         w: w,
         col: l.col + columns(p),
-        skip: others(p),
+        at: i + 1 + others(p),
         after: t[i] == b' ',
     }
 }
 
-// One byte of the text.
+// The bytes up to a space or an escape, or else one of these.
 fn fold_turn(l: Line, out: &mut [u8], t: &[u8], i: usize, single: bool, f: Fold) -> Line
     requires { ⌜ Passing (now t) i l (now out) ⌝ }
     ensures { λ r. ⌜ Onward (quoteBy single) f (now (t .entry)) i l (now (out .entry)) r (now (out .exit)) ⌝ }
 {
-    let skip = l.skip;
-    let w = l.w;
-    if skip > 0 {
+    let j = run_end(t, i, b' ', single);
+    if j > i {
+        let w = l.w;
         return Line {
-            w: w,
-            col: l.col,
-            skip: skip - 1,
-            after: l.after,
+            w: w.text(out, &t[i..j]),
+            col: l.col + (j - i),
+            at: j,
+            after: false,
         };
     }
     if breakable_at(t, i, l.after) {
@@ -446,24 +495,14 @@ pub fn put_folded(
     let mut l = Line {
         w: w,
         col: start,
-        skip: 0,
+        at: 0,
         after: true,
     };
-    let mut i = 0;
-    while i < t.len() {
+    while l.at < t.len() {
+        let i = l.at;
         l = fold_turn(l, out, t, i, single, f);
-        i += 1;
     }
     l.w
-}
-
-fn quote_of(single: bool) -> u8
-    ensures { λ r. ⌜ r ≡ quoteOf single ⌝ }
-{
-    if single {
-        return b'\'';
-    }
-    b'"'
 }
 
 // Whether lines are folded: outside keys, where a width is set.

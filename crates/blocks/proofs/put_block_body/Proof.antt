@@ -28,17 +28,17 @@ part-put-lines-end c = search needs
 put-lines-requires : tie.Need-put-lines-requires
 put-lines-requires c κs = search needs
 
-sub-put-breaks : tie.Need-sub-put-breaks
-sub-put-breaks c = search needs
+sub-again : tie.Need-sub-again
+sub-again c = search needs
 
-put-breaks-requires : tie.Need-put-breaks-requires
-put-breaks-requires c κs = search needs
+again-requires : tie.Need-again-requires
+again-requires c κs = search needs
 
 same-length : tie.Need-same-length
 same-length c = search needs
 
 returns : tie.Need-returns
-returns c = body-more _ (c .before .before .before .before .before .before .before .before .before .before .before .before .before .before .before .before .before .args .t .now) _ (c .before .before .before .before .before .before .before .before .before .before .before .before .before .before .trailing-breaks .ensures .0) (length (c .before .before .before .before .before .before .before .before .before .before .before .before .before .before .before .before .before .args .t .now) - c .before .before .before .before .before .before .before .before .before .before .before .before .before .before .trailing-breaks .result - 0) _ _ _ _ (c .before .before .before .before .if1 .taken) (c .before .before .before .before .before .before .before .before .before .before .before .before .byte .ensures) (c .before .before .before .before .before .before .before .put-lines .ensures) (omega arith) (c .before .before .put-breaks .ensures)
+returns c = body-more _ (c .before .before .before .before .before .before .before .before .before .before .before .before .before .before .before .before .before .args .t .now) _ (c .before .before .before .before .before .before .before .before .before .before .before .before .before .before .trailing-breaks .ensures .0) (length (c .before .before .before .before .before .before .before .before .before .before .before .before .before .before .before .before .before .args .t .now) - c .before .before .before .before .before .before .before .before .before .before .before .before .before .before .trailing-breaks .result - 0) _ _ _ _ (c .before .before .before .before .if1 .taken) (c .before .before .before .before .before .before .before .before .before .before .before .before .byte .ensures) (c .before .before .before .before .before .before .before .put-lines .ensures) (omega arith) (c .before .before .again .ensures)
 
 same-length-2 : tie.Need-same-length-2
 same-length-2 c = search needs
@@ -57,8 +57,8 @@ put-block-body-spec =
     part-put-lines-start
     part-put-lines-end
     put-lines-requires
-    sub-put-breaks
-    put-breaks-requires
+    sub-again
+    again-requires
     same-length
     returns
     same-length-2

@@ -1,45 +1,53 @@
 -- `blocks::put_lines` meets its contract.
+use borrow.Author.Needs.{needs}
+use mathlib.Core.Path.{_≡_, _∙_}
+use mathlib.Core.Bool.{true}
+use Prim.Native.Nat.{_-_}
+use lib.ListN.{length, drop, drop-of-length-le}
+use native.Mathlib.Omega.{arith}
 use Rattle.definition.specs.Block.{indented}
 use Rattle.pen.specs.Pen.{pen, puts}
-use lib.ListN.{length, drop, drop-of-length-le}
-use mathlib.Core.Bool.{true, false}
-use borrow.Author.Needs.{needs}
-use native.Mathlib.Omega.{arith}
-use Prim.Native.Nat.{ℕ, _+_, _*_, _≤_, _-_, max}
-use mathlib.Core.Path.{_≡_, refl, sym, ap, _∙_}
 use Rattle.blocks.proofs.put_lines.Statement.{statement}
 use Rattle.blocks.proofs.put_lines.Tie as tie
+use Rattle.blocks.proofs.put_lines.Reads as reads
+use Rattle.blocks.proofs.put_lines.Lts as lts
+use Rattle.blocks.proofs.line_turn.Reads as line-turn-reads
+use Rattle.pen.proofs.Writer.byte.Reads as byte-reads
 
 abbrev Inv-loop : tie.InvT-loop
-Inv-loop out₀ s indent g₀ i₀ out g i = (puts (indented indent (g .fresh) (drop i s)) (pen (g .w) out) ≡ puts (indented indent true s) (pen (g₀ .w) out₀)) × (i ≤ length s) × (length out ≡ length out₀)
+Inv-loop out₀ t indent fresh g₀ out g = (puts (indented indent (g .fresh) (drop (g .at) t)) (pen (g .w) out) ≡ puts (indented indent true t) (pen (g₀ .w) out₀)) × (length out ≡ length out₀)
 
 abbrev μ-loop : tie.MeasureT-loop
-μ-loop out₀ s indent g₀ i₀ out g i = length s - i
+μ-loop out₀ t indent fresh g₀ out g = length t - g .at
 
+-- src/lib.rt:76:5
 loop-holds : tie.Need-loop-holds Inv-loop μ-loop
 loop-holds c = search needs
 
+-- src/lib.rt:78:9
 line-turn-requires : tie.Need-line-turn-requires Inv-loop μ-loop
 line-turn-requires c κs = search needs
 
-add-i : tie.Need-add-i Inv-loop μ-loop
-add-i c = search needs
-
+-- src/lib.rt:76:5
 loop-less : tie.Need-loop-less Inv-loop μ-loop
-loop-less c = search needs
+loop-less c = let h = c .before .before .line-turn .ensures .1 in let t = c .before .before .before .before .if1 .taken in omega arith
 
+-- src/lib.rt:76:5
 loop-again : tie.Need-loop-again Inv-loop μ-loop
-loop-again c = (c .before .before .line-turn .ensures ∙ c .before .before .before .before .before .loop .inv .0, search needs, c .before .before .line-turn .kept .1 .0 ∙ c .before .before .before .before .before .loop .inv .2)
+loop-again c = (c .before .before .line-turn .ensures .0 ∙ c .before .before .before .before .before .before .loop .inv .0, c .before .before .line-turn .kept .1 .0 ∙ c .before .before .before .before .before .before .loop .inv .1)
 
+-- src/lib.rt:81:5
 byte-requires : tie.Need-byte-requires Inv-loop μ-loop
 byte-requires c κs = search needs
 
+-- src/lib.rt:66:1
 same-length : tie.Need-same-length Inv-loop μ-loop
 same-length c = search needs
 
+-- src/lib.rt:66:1
 returns : tie.Need-returns Inv-loop μ-loop
 unfolding indented puts
-returns c = c .before .before .byte .ensures ∙ rw (drop-of-length-le _ (c .before .before .before .before .before .loop-test .left)) at (c .before .before .before .before .before .before .loop .inv .0)
+returns c = c .before .before .byte .ensures ∙ rw (drop-of-length-le _ (c .before .before .before .before .before .if1 .left)) at (c .before .before .before .before .before .before .before .loop .inv .0)
 
 pub put-lines-spec : {M : Type 1} → statement M
 put-lines-spec =
@@ -49,7 +57,6 @@ put-lines-spec =
     μ-loop
     loop-holds
     line-turn-requires
-    add-i
     loop-less
     loop-again
     byte-requires

@@ -1,45 +1,53 @@
 -- `quoted::ahead` meets its contract.
-use Rattle.quoted.proofs.Folds.{measured-stop, measured-end}
-use Rattle.laws.specs.Folded.{aheadOf}
-use Rattle.laws.specs.Pieces.{quoteBy}
-use lib.ListN.{length, drop, drop-of-length-le}
-use mathlib.Core.Bool.{true, false}
 use borrow.Author.Needs.{needs}
+use mathlib.Core.Path.{_≡_, refl, sym, _∙_}
+use mathlib.Core.Bool.{true}
+use Prim.Native.Nat.{_+_, _*_, _-_, _≤_}
+use lib.ListN.{length, drop}
 use native.Mathlib.Omega.{arith}
-use Prim.Native.Nat.{ℕ, _+_, _*_, _≤_, _-_, max}
-use mathlib.Core.Path.{_≡_, refl, sym, ap, _∙_}
+use Rattle.laws.specs.Pieces.{quoteBy}
+use Rattle.laws.specs.Folded.{aheadOf}
+use Rattle.quoted.proofs.Folds.{measured-stop, measured-end}
 use Rattle.quoted.proofs.ahead.Statement.{statement}
 use Rattle.quoted.proofs.ahead.Tie as tie
+use Rattle.quoted.proofs.ahead.Reads as reads
+use Rattle.quoted.proofs.ahead.Lts as lts
+use Rattle.quoted.proofs.breakable_at.Reads as breakable-at-reads
+use Rattle.quoted.proofs.scan_turn.Reads as scan-turn-reads
 
 abbrev Inv-loop : tie.InvT-loop
-Inv-loop s from single g₀ i₀ g i = (g .n + aheadOf (quoteBy single) (λ b. 1) (g .skip) (g .after) (drop i s) ≡ aheadOf (quoteBy single) (λ b. 1) 0 true (drop from s)) × (i ≤ length s) × (g .n ≤ 6 * i)
+Inv-loop t from single g₀ g = (g .n + aheadOf (quoteBy single) (λ b. 1) 0 (g .after) (drop (g .at) t) ≡ aheadOf (quoteBy single) (λ b. 1) 0 true (drop from t)) × (g .n ≤ 6 * g .at) × (g .at ≤ length t + 2)
 
 abbrev μ-loop : tie.MeasureT-loop
-μ-loop s from single g₀ i₀ g i = length s - i
+μ-loop t from single g₀ g = length t - g .at
 
+-- src/lib.rt:399:5
 loop-holds : tie.Need-loop-holds Inv-loop μ-loop
 loop-holds c = search needs
 
-scan-stops-requires : tie.Need-scan-stops-requires Inv-loop μ-loop
-scan-stops-requires c κs = search needs
+-- src/lib.rt:401:12
+breakable-at-requires : tie.Need-breakable-at-requires Inv-loop μ-loop
+breakable-at-requires c κs = search needs
 
+-- src/lib.rt:402:13
 returns : tie.Need-returns Inv-loop μ-loop
-returns c = (measured-stop _ _ _ _ _ _ (c .before .before .before .loop .inv .0) (sym (c .before .scan-stops .ensures) ∙ c .if1 .taken), (let a = c .before .before .before .loop .inv .1 in let b = c .before .before .before .loop .inv .2 in omega arith))
+returns c = (measured-stop _ _ _ _ (c .before .before .before .before .before .before .args .t .now) _ (c .before .before .if1 .taken) (c .before .before .before .before .loop .inv .0) (sym (c .before .breakable-at .ensures) ∙ c .if2 .taken), let a = c .before .before .before .before .loop .inv .1 in let b = c .before .before .if1 .taken in omega arith)
 
+-- src/lib.rt:404:9
 scan-turn-requires : tie.Need-scan-turn-requires Inv-loop μ-loop
-scan-turn-requires c κs = (search needs, search needs, search needs, sym (c .before .scan-stops .ensures) ∙ c .if1 .left)
+scan-turn-requires c κs = ((c .before .before .if1 .taken, c .before .before .before .before .before .before .pre .1, (let a = c .before .before .before .before .loop .inv .1 in let b = c .before .before .if1 .taken in let p = (c .before .before .before .before .before .before .pre) in omega arith)), sym (c .before .breakable-at .ensures) ∙ c .if2 .left)
 
-add-i : tie.Need-add-i Inv-loop μ-loop
-add-i c = search needs
-
+-- src/lib.rt:399:5
 loop-less : tie.Need-loop-less Inv-loop μ-loop
-loop-less c = search needs
+loop-less c = let h = c .scan-turn .ensures .on in let t = c .before .before .before .if1 .taken in omega arith
 
+-- src/lib.rt:399:5
 loop-again : tie.Need-loop-again Inv-loop μ-loop
-loop-again c = (c .scan-turn .ensures .sum ∙ c .before .before .before .before .loop .inv .0, search needs, omega (arith, c .scan-turn .ensures .grows))
+loop-again c = (c .scan-turn .ensures .sum ∙ c .before .before .before .before .before .loop .inv .0, (let a = c .before .before .before .before .before .loop .inv .1 in let b = c .scan-turn .ensures .grows in omega arith), c .scan-turn .ensures .upto)
 
+-- src/lib.rt:390:1
 returns-2 : tie.Need-returns-2 Inv-loop μ-loop
-returns-2 c = (measured-end _ _ _ _ _ (c .before .before .before .args .t .now) (c .before .loop .i) (c .before .loop .inv .0) (c .loop-test .left), (let a = c .before .loop .inv .1 in let b = c .before .loop .inv .2 in omega arith))
+returns-2 c = (measured-end _ _ _ _ (c .before .before .before .before .args .t .now) _ (c .before .before .loop .inv .0) (c .if1 .left), let a = c .before .before .loop .inv .1 in let b = c .before .before .loop .inv .2 in omega arith)
 
 pub ahead-spec : {M : Type 1} → statement M
 ahead-spec =
@@ -48,10 +56,9 @@ ahead-spec =
     Inv-loop
     μ-loop
     loop-holds
-    scan-stops-requires
+    breakable-at-requires
     returns
     scan-turn-requires
-    add-i
     loop-less
     loop-again
     returns-2)

@@ -1,39 +1,72 @@
 -- `quoted::body_turn` meets its contract.
-use Rattle.quoted.proofs.Laws.{skips, turn, zero-of}
-use mathlib.Core.Path.{refl}
+use native.Mathlib.Omega.{arith}
+use Rattle.quoted.proofs.Laws.{run-written}
 use borrow.Author.Needs.{needs}
 use Rattle.quoted.proofs.body_turn.Statement.{statement}
 use Rattle.quoted.proofs.body_turn.Tie as tie
+use Rattle.quoted.proofs.body_turn.Reads as reads
+use Rattle.quoted.proofs.body_turn.Lts as lts
+use Rattle.pen.proofs.Writer.text.Reads as text-reads
+use Rattle.quoted.proofs.piece_turn.Reads as piece-turn-reads
+use Rattle.quoted.proofs.quote_of.Reads as quote-of-reads
+use Rattle.quoted.proofs.run_end.Reads as run-end-reads
 
-sub-t11 : tie.Need-sub-t11
-sub-t11 c = search needs
+-- src/lib.rt:302:27
+quote-of-requires : tie.Need-quote-of-requires
+quote-of-requires c κs = search needs
 
-returns : tie.Need-returns
-returns c = skips _ (c .before .before .before .before .args .t .now) (c .before .before .before .before .args .i) _ _ _ (c .before .before .before .before .pre .0) (c .if1 .taken) refl
+-- src/lib.rt:302:9
+run-end-requires : tie.Need-run-end-requires
+run-end-requires c κs = search needs
 
-piece-at-requires : tie.Need-piece-at-requires
-piece-at-requires c κs = search needs
+-- src/lib.rt:304:9
+piece-turn-requires : tie.Need-piece-turn-requires
+piece-turn-requires c κs = search needs
 
-put-piece-requires : tie.Need-put-piece-requires
-put-piece-requires c κs = search needs
-
-others-requires : tie.Need-others-requires
-others-requires c κs = tt
-
+-- src/lib.rt:304:9
 same-length : tie.Need-same-length
 same-length c = search needs
 
+-- src/lib.rt:304:9
+returns : tie.Need-returns
+returns c = search needs
+
+-- src/lib.rt:307:24
+sub-text : tie.Need-sub-text
+sub-text c = search needs
+
+-- src/lib.rt:307:24
+part-text-start : tie.Need-part-text-start
+part-text-start c = search needs
+
+-- src/lib.rt:307:24
+part-text-end : tie.Need-part-text-end
+part-text-end c = search needs
+
+-- src/lib.rt:307:12
+text-requires : tie.Need-text-requires
+text-requires c κs = search needs
+
+-- src/lib.rt:298:1
+same-length-2 : tie.Need-same-length-2
+same-length-2 c = search needs
+
+-- src/lib.rt:298:1
 returns-2 : tie.Need-returns-2
-returns-2 c = rw (zero-of (c .before .before .before .before .before .before .if1 .left)) (turn _ (c .before .before .before .before .before .before .before .before .before .before .args .t .now) (c .before .before .before .before .before .before .before .before .before .before .args .i) _ _ _ _ _ (c .before .before .before .before .before .before .before .before .before .before .pre .0) (c .before .before .before .before .before .piece-at .ensures) (c .before .before .before .put-piece .ensures) (c .others .ensures) refl)
+returns-2 c = record { same = run-written _ _ (c .before .before .before .before .before .before .before .before .before .before .args .t .now) (c .before .before .before .before .before .before .before .before .before .before .args .i) (c .before .before .before .before .before .before .run-end .result) _ _ (c .before .before .before .before .before .before .run-end .ensures) (c .before .before .text .ensures); on = let h = c .before .before .before .before .before .before .run-end .ensures .on in let n = c .before .before .before .before .before .if1 .left in omega arith }
 
 pub body-turn-spec : {M : Type 1} → statement M
 body-turn-spec =
     tie.close
     (tie.spec
-    sub-t11
-    returns
-    piece-at-requires
-    put-piece-requires
-    others-requires
+    quote-of-requires
+    run-end-requires
+    piece-turn-requires
     same-length
+    returns
+    sub-text
+    part-text-start
+    part-text-end
+    text-requires
+    same-length-2
     returns-2)

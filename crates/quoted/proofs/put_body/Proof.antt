@@ -1,42 +1,47 @@
 -- `quoted::put_body` meets its contract.
+use borrow.Author.Needs.{needs}
+use mathlib.Core.Path.{_≡_, _∙_}
+use Prim.Native.Nat.{_-_}
+use lib.ListN.{length, drop, drop-of-length-le}
+use native.Mathlib.Omega.{arith}
 use Rattle.laws.specs.Pieces.{quoteBy, body}
 use Rattle.pen.specs.Pen.{pen, puts}
-use lib.ListN.{length, drop, drop-of-length-le}
-use mathlib.Core.Bool.{true, false}
-use borrow.Author.Needs.{needs}
-use native.Mathlib.Omega.{arith}
-use Prim.Native.Nat.{ℕ, _+_, _*_, _≤_, _-_, max}
-use mathlib.Core.Path.{_≡_, refl, sym, ap, _∙_}
 use Rattle.quoted.proofs.put_body.Statement.{statement}
 use Rattle.quoted.proofs.put_body.Tie as tie
+use Rattle.quoted.proofs.put_body.Reads as reads
+use Rattle.quoted.proofs.put_body.Lts as lts
+use Rattle.quoted.proofs.body_turn.Reads as body-turn-reads
 
 abbrev Inv-loop : tie.InvT-loop
-Inv-loop out₀ s single g₀ i₀ out g i = (puts (body (quoteBy single) (g .skip) (drop i s)) (pen (g .w) out) ≡ puts (body (quoteBy single) 0 s) (pen (g₀ .w) out₀)) × (i ≤ length s) × (length out ≡ length out₀)
+Inv-loop out₀ t single g₀ out g = (puts (body (quoteBy single) 0 (drop (g .at) t)) (pen (g .w) out) ≡ puts (body (quoteBy single) 0 t) (pen (g₀ .w) out₀)) × (length out ≡ length out₀)
 
 abbrev μ-loop : tie.MeasureT-loop
-μ-loop out₀ s single g₀ i₀ out g i = length s - i
+μ-loop out₀ t single g₀ out g = length t - g .at
 
+-- src/lib.rt:318:5
 loop-holds : tie.Need-loop-holds Inv-loop μ-loop
 loop-holds c = search needs
 
+-- src/lib.rt:321:9
 body-turn-requires : tie.Need-body-turn-requires Inv-loop μ-loop
 body-turn-requires c κs = search needs
 
-add-i : tie.Need-add-i Inv-loop μ-loop
-add-i c = search needs
-
+-- src/lib.rt:318:5
 loop-less : tie.Need-loop-less Inv-loop μ-loop
-loop-less c = search needs
+loop-less c = let h = c .before .before .body-turn .ensures .on in let t = c .before .before .before .before .before .if1 .taken in omega arith
 
+-- src/lib.rt:318:5
 loop-again : tie.Need-loop-again Inv-loop μ-loop
-loop-again c = (c .before .before .body-turn .ensures ∙ c .before .before .before .before .before .loop .inv .0, search needs, c .before .before .body-turn .kept .1 .0 ∙ c .before .before .before .before .before .loop .inv .2)
+loop-again c = (c .before .before .body-turn .ensures .same ∙ c .before .before .before .before .before .before .before .loop .inv .0, c .before .before .body-turn .kept .1 .0 ∙ c .before .before .before .before .before .before .before .loop .inv .1)
 
+-- src/lib.rt:313:1
 same-length : tie.Need-same-length Inv-loop μ-loop
-same-length c = search needs
+same-length c = c .before .before .before .loop .inv .1
 
+-- src/lib.rt:313:1
 returns : tie.Need-returns Inv-loop μ-loop
 unfolding body puts
-returns c = rw (drop-of-length-le _ (c .before .loop-test .left)) at (c .before .before .loop .inv .0)
+returns c = rw (drop-of-length-le _ (c .before .if1 .left)) at (c .before .before .before .loop .inv .0)
 
 pub put-body-spec : {M : Type 1} → statement M
 put-body-spec =
@@ -46,7 +51,6 @@ put-body-spec =
     μ-loop
     loop-holds
     body-turn-requires
-    add-i
     loop-less
     loop-again
     same-length

@@ -1,73 +1,49 @@
-use mathlib.Core.Path.{_≡_, _∙_}
-use Prim.Native.Nat.{ℕ, _+_, _-_, _<_, _≤_}
-use native.Mathlib.Omega.{arith}
-use native.Mathlib.Numerals.{add-one}
-use mathlib.Core.List.{List}
-use lib.ListN.{length, getD, drop, drop-of-length-le}
-use lib.Seq.{drop-cons}
+-- `pen::Writer::text` meets its contract.
 use borrow.Author.Needs.{needs}
-use Rattle.pen.specs.Pen.{Pen, pen, puts, put1}
 use Rattle.pen.proofs.Writer.text.Statement.{statement}
 use Rattle.pen.proofs.Writer.text.Tie as tie
 use Rattle.pen.proofs.Writer.text.Reads as reads
 use Rattle.pen.proofs.Writer.text.Lts as lts
-use Rattle.pen.proofs.Writer.byte.Reads as byte-reads
+use Rattle.pen.proofs.Writer.text_at_once.Reads as text-at-once-reads
+use Rattle.pen.proofs.Writer.text_by_bytes.Reads as text-by-bytes-reads
+use Rattle.pen.proofs.has_room.Reads as has-room-reads
 
-turn : (s : List ℕ) (i : ℕ) (P P′ Z : Pen) → i < length s → P′ ≡ put1 P (getD s i 0) → puts (drop i s) P ≡ Z → puts (drop (i + 1) s) P′ ≡ Z
-unfolding puts
-turn s i P P′ Z h e inv = rw (add-one, e) (rw (drop-cons s i 0) at inv)
+-- src/lib.rt:197:12
+has-room-requires : tie.Need-has-room-requires
+has-room-requires c κs = search needs
 
-abbrev Inv-loop : tie.InvT-loop
-Inv-loop out₀ t w₀ i₀ out w i = (puts (drop i t) (pen w out) ≡ puts t (pen w₀ out₀)) × (i ≤ length t) × (length out ≡ length out₀)
+-- src/lib.rt:198:13
+text-at-once-requires : tie.Need-text-at-once-requires
+text-at-once-requires c κs = let h = c .before .before .has-room .ensures (c .before .if1 .taken) in (h .0, h .1, search needs)
 
-abbrev μ-loop : tie.MeasureT-loop
-μ-loop out₀ t w₀ i₀ out w i = length t - i
+-- src/lib.rt:198:13
+same-length : tie.Need-same-length
+same-length c = search needs
 
--- src/lib.rt:84:9
-loop-holds : tie.Need-loop-holds Inv-loop μ-loop
-loop-holds c = search needs
+-- src/lib.rt:198:13
+returns : tie.Need-returns
+returns c = search needs
 
--- src/lib.rt:85:29
-shared-slice-read-byte : tie.Need-shared-slice-read-byte Inv-loop μ-loop
-shared-slice-read-byte c = search needs
+-- src/lib.rt:200:9
+text-by-bytes-requires : tie.Need-text-by-bytes-requires
+text-by-bytes-requires c κs = search needs
 
--- src/lib.rt:85:13
-byte-requires : tie.Need-byte-requires Inv-loop μ-loop
-byte-requires c κs = let e = c .before .before .before .loop .inv .2 in let h = c .before .before .before .before .before .before .pre in omega arith
+-- src/lib.rt:192:5
+same-length-2 : tie.Need-same-length-2
+same-length-2 c = search needs
 
--- src/lib.rt:86:13
-add-i : tie.Need-add-i Inv-loop μ-loop
-add-i c = search needs
-
--- src/lib.rt:84:9
-loop-less : tie.Need-loop-less Inv-loop μ-loop
-loop-less c = search needs
-
--- src/lib.rt:84:9
-loop-again : tie.Need-loop-again Inv-loop μ-loop
-loop-again c =
-    (turn _ (c .before .before .before .before .before .before .loop .i) _ _ _ (c .before .before .before .before .before .loop-test .taken) (c .before .before .byte .ensures) (c .before .before .before .before .before .before .loop .inv .0), search needs, c .before .before .byte .kept .1 .0 ∙ c .before .before .before .before .before .before .loop .inv .2)
-
--- src/lib.rt:78:5
-same-length : tie.Need-same-length Inv-loop μ-loop
-same-length c = c .before .loop .inv .2
-
--- src/lib.rt:78:5
-returns : tie.Need-returns Inv-loop μ-loop
-unfolding puts
-returns c = rw (drop-of-length-le _ (c .loop-test .left)) at (c .before .loop .inv .0)
+-- src/lib.rt:192:5
+returns-2 : tie.Need-returns-2
+returns-2 c = search needs
 
 pub text-spec : {M : Type 1} → statement M
 text-spec =
     tie.close
     (tie.spec
-    Inv-loop
-    μ-loop
-    loop-holds
-    shared-slice-read-byte
-    byte-requires
-    add-i
-    loop-less
-    loop-again
+    has-room-requires
+    text-at-once-requires
     same-length
-    returns)
+    returns
+    text-by-bytes-requires
+    same-length-2
+    returns-2)

@@ -1,0 +1,23 @@
+-- `pen::next_column` meets its contract.
+use borrow.Author.Tests.{eq-eqb, ne-eqb}
+use borrow.Author.Needs.{needs}
+use Rattle.pen.proofs.next_column.Statement.{statement}
+use Rattle.pen.proofs.next_column.Tie as tie
+use Rattle.pen.proofs.next_column.Reads as reads
+use Rattle.pen.proofs.next_column.Lts as lts
+use Rattle.pen.proofs.up_to.Reads as up-to-reads
+
+-- src/lib.rt:52:9
+returns : tie.Need-returns
+returns c = rw (eq-eqb _ _ (c .if1 .taken))
+
+-- src/lib.rt:54:5
+up-to-requires : tie.Need-up-to-requires
+up-to-requires c κs = search needs
+
+-- src/lib.rt:47:1
+returns-2 : tie.Need-returns-2
+returns-2 c = rw (ne-eqb _ _ (c .before .if1 .left)) (c .up-to .ensures)
+
+pub next-column-spec : {M : Type 1} → statement M
+next-column-spec = tie.close (tie.spec returns up-to-requires returns-2)
