@@ -59,7 +59,7 @@ use Rattle.files.proofs.Walk as G
 use Rattle.files.proofs.Walk.Laws as G′
 use Rattle.files.proofs.Made as D
 use Rattle.files.proofs.Made.Laws as D′
-use Rattle.changes.specs.Again.{LentAgain, lends-again, comes-back}
+use Rattle.changes.specs.Loan.{OnLoan, goes-on-loan, back-from-loan}
 use Rattle.files.proofs.next_file as next
 use Rattle.files.proofs.next_file.Symbol as next-def
 use Rattle.files.proofs.next_file.Symbol.{name as #files·next-file}
@@ -323,7 +323,7 @@ module _ {M : Type 1} (𝓤 : URA M) (H : Heap 𝓤) (A : Atoms 𝓤) (W : Given
         rewrite ! 13 (λ (m : ℕ). ‵ (fat fullShare lentOutTy l₁₂ 0 (so m))) (sym (s .wide)) refl $
         rewrite ! 7 (λ (m : ℕ). ‵ (OwnO (s .out) m)) (sym (s .wide)) refl $
         lft-new ! tt (λ ν. move ! (8 ∷ 5 ∷ []) $
-        use2 W (later (some (λ (δ : GName). ‵ (MutSlice (named 2) (ν ∷ []) u8 .own (xo δ (s .out)) (so (length (s .out)) ∷ [])) ⊛ ‵ (LentAgain u8 κ₃ (ν ∷ []) q₃ γ′ b′ o′ δ (s .out))))) (lends-again u8 κ₃ (ν ∷ []) q₃ γ′ b′ o′ 𝓤 H A W (named 3) (named 2) (s .out)) $ await ! tt $ pick ! (λ δ. split ! $
+        use2 W (later (some (λ (δ : GName). ‵ (MutSlice (named 2) (ν ∷ []) u8 .own (xo δ (s .out)) (so (length (s .out)) ∷ [])) ⊛ ‵ (OnLoan u8 κ₃ (ν ∷ []) q₃ γ′ b′ o′ δ (s .out))))) (goes-on-loan u8 κ₃ (ν ∷ []) q₃ γ′ b′ o′ 𝓤 H A W (named 3) (named 2) (s .out)) $ await ! tt $ pick ! (λ δ. split ! $
         -- [the output, lent; what is kept; ν; the list; κ₀; κ₁; κ₂; the deck; the pool; _7; …]: the deck and the pool are copied, and `next_file` is called
         move ! (7 ∷ 8 ∷ []) $ use1 W (‵ OwnD ⊛ ‵ OwnD) (shr-slice-copy 𝓤 H A W (named 1) κ₁ u8 .twice d (sd ∷ [])) $ split ! $
         move ! (2 ∷ []) $ use1 W (‵ OwnP ⊛ ‵ OwnP) (shr-slice-copy 𝓤 H A W (named 2) κ₂ u8 .twice p (sp ∷ [])) $ split ! $
@@ -339,7 +339,7 @@ module _ {M : Type 1} (𝓤 : URA M) (H : Heap 𝓤) (A : Atoms 𝓤) (W : Given
         rewrite ! 13 (λ (v : Val). ‵ (fat fullShare madeTy l₉ 0 v)) (ap only (LL.tells D.the-type D′.the-laws r (u ∷ []) is)) refl $
         -- the lifetime is ended, and the output comes back
         drop ! $ split ! $ move ! (1 ∷ []) $ split ! $ move ! (1 ∷ []) $ split ! $ lft-end ! tt $ move ! (0 ∷ 10 ∷ 4 ∷ []) $
-        use3 W (later (‵ (OwnO (zs .1 .1 .0) (length (s .out))) ⊛ ‵ (flft κ₃ q₃))) (comes-back u8 κ₃ (ν ∷ []) q₃ γ′ b′ o′ 𝓤 H A W (named 3) (named 2) (s .out) δ (zs .1 .1 .0) room-out-now lo) $ await ! tt $ split ! $
+        use3 W (later (‵ (OwnO (zs .1 .1 .0) (length (s .out))) ⊛ ‵ (flft κ₃ q₃))) (back-from-loan u8 κ₃ (ν ∷ []) q₃ γ′ b′ o′ 𝓤 H A W (named 3) (named 2) (s .out) δ (zs .1 .1 .0) room-out-now lo) $ await ! tt $ split ! $
         rewrite ! 0 (λ (m : ℕ). ‵ (OwnO (zs .1 .1 .0) m)) (s .wide) refl $
         keep ! (0 ∷ 1 ∷ 3 ∷ 4 ∷ 8 ∷ 9 ∷ 10 ∷ 11 ∷ 12 ∷ 13 ∷ 14 ∷ 15 ∷ 16 ∷ 17 ∷ 18 ∷ 19 ∷ 20 ∷ 21 ∷ 22 ∷ 23 ∷ 24 ∷ 25 ∷ 26 ∷ 27 ∷ 28 ∷ 29 ∷ 30 ∷ 31 ∷ 32 ∷ 33 ∷ 34 ∷ 35 ∷ 36 ∷ 37 ∷ 38 ∷ 39 ∷ 40 ∷ 41 ∷ 42 ∷ 43 ∷ []) $
         -- [the output; κ₃; κ₂; κ₁; the pool; the deck; the list; κ₀; _7; _8; …; _15; _1; _2; …]: the list is lent again for a lifetime μ of the call
@@ -348,7 +348,7 @@ module _ {M : Type 1} (𝓤 : URA M) (H : Heap 𝓤) (A : Atoms 𝓤) (W : Given
         rewrite ! 16 (λ (m : ℕ). ‵ (fat fullShare lentTy l₁₅ 0 (sl m))) (sym (s .len)) refl $
         rewrite ! 6 (λ (m : ℕ). ‵ (OwnL (s .cur) m)) (sym (s .len)) refl $
         lft-new ! tt (λ μ. move ! (7 ∷ 8 ∷ []) $
-        use2 W (later (some (λ (ε : GName). ‵ (MutSlice (named 0) (μ ∷ []) R .own (x ε (s .cur)) (sl (length (s .cur)) ∷ [])) ⊛ ‵ (LentAgain R κ₀ (μ ∷ []) q₀ γ b o ε (s .cur))))) (lends-again R κ₀ (μ ∷ []) q₀ γ b o 𝓤 H A W (named 0) (named 0) (s .cur)) $ await ! tt $ pick ! (λ ε. split ! $
+        use2 W (later (some (λ (ε : GName). ‵ (MutSlice (named 0) (μ ∷ []) R .own (x ε (s .cur)) (sl (length (s .cur)) ∷ [])) ⊛ ‵ (OnLoan R κ₀ (μ ∷ []) q₀ γ b o ε (s .cur))))) (goes-on-loan R κ₀ (μ ∷ []) q₀ γ b o 𝓤 H A W (named 0) (named 0) (s .cur)) $ await ! tt $ pick ! (λ ε. split ! $
         move ! (2 ∷ 0 ∷ []) $ use2 W (raw (Put 𝓤 H A mem run .pre (to-put (s .cur) (s .i) (r .change) μ ε))) (goes-put (s .cur) (s .i) (r .change) i-fits (of-change r (u ∷ []) is) μ ε within) $
         -- [pre; what is kept; the output; κ₃; κ₂; κ₁; the pool; the deck; _7; _8; …; _15; _1; _2; …]
         calls-at ! fm (Put 𝓤 H A mem run) known-put (to-put (s .cur) (s .i) (r .change) μ ε) (and-then ! (load ! (from ! (stop !)) (look ! 16 refl)) (and-then ! (load ! (from ! (stop !)) (look ! 8 refl)) (and-then ! (load ! (from ! (fld ! refl (stop !))) (look-in ! 10 (sub ! 0 refl (whole !)))) (no-more !)))) (λ v.
@@ -359,7 +359,7 @@ module _ {M : Type 1} (𝓤 : URA M) (H : Heap 𝓤) (A : Atoms 𝓤) (W : Given
         land ! (from ! (stop !)) (init ! 17 refl (nothing-lawful 𝓤 H A W .typed z _ is₂ .0)) $
         -- the lifetime is ended, and the list comes back
         move ! (1 ∷ []) $ split ! $ lft-end ! tt $ move ! (0 ∷ 5 ∷ 3 ∷ []) $
-        use3 W (later (‵ (OwnL (ls .0) (length (s .cur))) ⊛ ‵ (flft κ₀ q₀))) (comes-back R κ₀ (μ ∷ []) q₀ γ b o 𝓤 H A W (named 0) (named 0) (s .cur) ε (ls .0) room-now l) $ await ! tt $ split ! $
+        use3 W (later (‵ (OwnL (ls .0) (length (s .cur))) ⊛ ‵ (flft κ₀ q₀))) (back-from-loan R κ₀ (μ ∷ []) q₀ γ b o 𝓤 H A W (named 0) (named 0) (s .cur) ε (ls .0) room-now l) $ await ! tt $ split ! $
         rewrite ! 0 (λ (m : ℕ). ‵ (OwnL (ls .0) m)) (s .len) refl $
         -- [the list; κ₀; true; …; …; the output; κ₃; κ₂; κ₁; the pool; the deck; _7; _8; …; _15; _1; …; _6; _0; and that each local dies]
         assigns ! (of-opd ! (load ! (from ! (fld ! refl (stop !))) (look-in ! 13 (sub ! 1 refl (whole !))))) (from ! (stop !)) (store ! 12 refl (LL.lawful G.the-type G′.the-laws 𝓤 H A W .typed (r .next) _ (of-next r (u ∷ []) is) .0)) $

@@ -40,7 +40,7 @@ use Rattle.definition.proofs.Change as T
 use Rattle.files.specs.declared.Walk.{Walk}
 use Rattle.files.proofs.Walk as G
 use Rattle.files.proofs.Walk.Laws as G′
-use Rattle.changes.specs.Again.{LentAgain, lends-again, comes-back}
+use Rattle.changes.specs.Loan.{OnLoan, goes-on-loan, back-from-loan}
 use Rattle.changes.specs.Filled.{started, filled, Filled}
 use Rattle.changes.proofs.fill_list as fill
 use Rattle.plan.specs.Plan.{planOf, settledOf, clearedOf}
@@ -251,7 +251,7 @@ module _ {M : Type 1} (𝓤 : URA M) (H : Heap 𝓤) (A : Atoms 𝓤) (W : Given
     to-fill t = ((during t, (fullShare, (q₀, (q₁, (fullShare, tt)))), tt, passed t, at), tt)
 
     abbrev Kept : Tags → Fml
-    Kept t = fsep OwnD (fsep OwnP (fsep (LentAgain u8 κ₂ (t .μ ∷ []) q₂ γ′ b′ o′ (t .ε) z) (LentAgain R κ₃ (t .ν ∷ []) q₃ γ b o (t .δ) l)))
+    Kept t = fsep OwnD (fsep OwnP (fsep (OnLoan u8 κ₂ (t .μ ∷ []) q₂ γ′ b′ o′ (t .ε) z) (OnLoan R κ₃ (t .ν ∷ []) q₃ γ b o (t .δ) l)))
 
     record Ran (u : Val) : Type 0 where
       walk : Walk
@@ -272,9 +272,9 @@ module _ {M : Type 1} (𝓤 : URA M) (H : Heap 𝓤) (A : Atoms 𝓤) (W : Given
         -- [κ₀; κ₁; the pool; the deck; κ₂; the output; κ₃; the list]
         rewrite ! 7 (λ (m : ℕ). ‵ (OwnL l m)) (sym long) refl $ rewrite ! 5 (λ (m : ℕ). ‵ (OwnO z m)) (sym broad) refl $
         lft-new ! tt (λ ν. move ! (8 ∷ 7 ∷ []) $
-        use2 W (later (some (λ (δ : GName). ‵ (MutSlice (named 0) (ν ∷ []) R .own (xl δ l) (sl (length l) ∷ [])) ⊛ ‵ (LentAgain R κ₃ (ν ∷ []) q₃ γ b o δ l)))) (lends-again R κ₃ (ν ∷ []) q₃ γ b o 𝓤 H A W (named 3) (named 0) l) $ await ! tt $ pick ! (λ δ. split ! $
+        use2 W (later (some (λ (δ : GName). ‵ (MutSlice (named 0) (ν ∷ []) R .own (xl δ l) (sl (length l) ∷ [])) ⊛ ‵ (OnLoan R κ₃ (ν ∷ []) q₃ γ b o δ l)))) (goes-on-loan R κ₃ (ν ∷ []) q₃ γ b o 𝓤 H A W (named 3) (named 0) l) $ await ! tt $ pick ! (λ δ. split ! $
         lft-new ! tt (λ μ. move ! (9 ∷ 8 ∷ []) $
-        use2 W (later (some (λ (ε : GName). ‵ (MutSlice (named 3) (μ ∷ []) u8 .own (xo ε z) (so (length z) ∷ [])) ⊛ ‵ (LentAgain u8 κ₂ (μ ∷ []) q₂ γ′ b′ o′ ε z)))) (lends-again u8 κ₂ (μ ∷ []) q₂ γ′ b′ o′ 𝓤 H A W (named 2) (named 3) z) $ await ! tt $ pick ! (λ ε. split ! $
+        use2 W (later (some (λ (ε : GName). ‵ (MutSlice (named 3) (μ ∷ []) u8 .own (xo ε z) (so (length z) ∷ [])) ⊛ ‵ (OnLoan u8 κ₂ (μ ∷ []) q₂ γ′ b′ o′ ε z)))) (goes-on-loan u8 κ₂ (μ ∷ []) q₂ γ′ b′ o′ 𝓤 H A W (named 2) (named 3) z) $ await ! tt $ pick ! (λ ε. split ! $
         -- [the output, lent; what is kept of it; μ; the list, lent; what is kept of it; ν; κ₀; κ₁; the pool; the deck]
         rewrite ! 0 (λ (m : ℕ). ‵ (MutSlice (named 3) (μ ∷ []) u8 .own (xo ε z) (so m ∷ []))) broad refl $ rewrite ! 3 (λ (m : ℕ). ‵ (MutSlice (named 0) (ν ∷ []) R .own (xl δ l) (sl m ∷ []))) long refl $
         move ! (8 ∷ 9 ∷ []) $ use1 W (‵ OwnP ⊛ ‵ OwnP) (shr-slice-copy 𝓤 H A W (named 1) κ₁ u8 .twice p (sp ∷ [])) $ split ! $
@@ -308,11 +308,11 @@ module _ {M : Type 1} (𝓤 : URA M) (H : Heap 𝓤) (A : Atoms 𝓤) (W : Given
         split ! $ move ! (1 ∷ []) $ split ! $ move ! (1 ∷ []) $ split ! $ move ! (1 ∷ []) $ split ! $ move ! (7 ∷ []) $ fsplit ! $ move ! (1 ∷ []) $ fsplit ! $ move ! (1 ∷ []) $ fsplit ! $
         -- [what is kept of the output, and of the list; the pool; the deck; μ; true; κ₁; κ₀; ν; the output's last bytes; the list's last entries]
         move ! (4 ∷ []) $ lft-end ! tt $ move ! (0 ∷ 1 ∷ 9 ∷ []) $
-        use3 W (later (‵ (OwnO (zs .1 .1 .1 .0) (length z)) ⊛ ‵ (flft κ₂ q₂))) (comes-back u8 κ₂ (t .μ ∷ []) q₂ γ′ b′ o′ 𝓤 H A W (named 2) (named 3) z (t .ε) (zs .1 .1 .1 .0) (subst (Room u8) (sym broad) room-out) lo) $ await ! tt $ split ! $
+        use3 W (later (‵ (OwnO (zs .1 .1 .1 .0) (length z)) ⊛ ‵ (flft κ₂ q₂))) (back-from-loan u8 κ₂ (t .μ ∷ []) q₂ γ′ b′ o′ 𝓤 H A W (named 2) (named 3) z (t .ε) (zs .1 .1 .1 .0) (subst (Room u8) (sym broad) room-out) lo) $ await ! tt $ split ! $
         rewrite ! 0 (λ (m : ℕ). ‵ (OwnO (zs .1 .1 .1 .0) m)) broad refl $
         -- [the output; κ₂; what is kept of the list; the pool; the deck; true; κ₁; κ₀; ν; the list's last entries]
         move ! (8 ∷ []) $ lft-end ! tt $ move ! (0 ∷ 3 ∷ 9 ∷ []) $
-        use3 W (later (‵ (OwnL (zs .0) (length l)) ⊛ ‵ (flft κ₃ q₃))) (comes-back R κ₃ (t .ν ∷ []) q₃ γ b o 𝓤 H A W (named 3) (named 0) l (t .δ) (zs .0) (subst (Room R) (sym long) room-list) ll) $ await ! tt $ split ! $
+        use3 W (later (‵ (OwnL (zs .0) (length l)) ⊛ ‵ (flft κ₃ q₃))) (back-from-loan R κ₃ (t .ν ∷ []) q₃ γ b o 𝓤 H A W (named 3) (named 0) l (t .δ) (zs .0) (subst (Room R) (sym long) room-list) ll) $ await ! tt $ split ! $
         rewrite ! 0 (λ (m : ℕ). ‵ (OwnL (zs .0) m)) long refl $
         -- [the list; κ₃; the output; κ₂; the pool; the deck; true; κ₁; κ₀]
         at-once ! $ show ! (λ (e : Ran u). sem 𝓤 H A (All (e .out) (e .list))) (record { walk = r; out = zs .1 .1 .1 .0; list = zs .0; is = is; broad = lo ∙ broad; long = ll ∙ long; same = e }) $ keep ! (8 ∷ 7 ∷ 4 ∷ 5 ∷ 3 ∷ 2 ∷ 1 ∷ 0 ∷ []) $
@@ -330,7 +330,7 @@ module _ {M : Type 1} (𝓤 : URA M) (H : Heap 𝓤) (A : Atoms 𝓤) (W : Given
     to-settle t = (((t .μ ∷ [], tt), (fullShare, tt), tt, handed t, handed-at), tt)
 
     abbrev Spared : Tags → Fml
-    Spared t = fsep (OwnL l room) (fsep (flft κ₃ q₃) (fsep (LentAgain u8 κ₂ (t .μ ∷ []) q₂ γ′ b′ o′ (t .ε) z) (fsep OwnD (fsep OwnP (fsep (flft κ₀ q₀) (flft κ₁ q₁))))))
+    Spared t = fsep (OwnL l room) (fsep (flft κ₃ q₃) (fsep (OnLoan u8 κ₂ (t .μ ∷ []) q₂ γ′ b′ o′ (t .ε) z) (fsep OwnD (fsep OwnP (fsep (flft κ₀ q₀) (flft κ₁ q₁))))))
 
     record Settled (u : Val) : Type 0 where
       last : Plan
@@ -351,7 +351,7 @@ module _ {M : Type 1} (𝓤 : URA M) (H : Heap 𝓤) (A : Atoms 𝓤) (W : Given
         -- [κ₂; the deck, the pool, κ₀ and κ₁; the output; κ₃; the list]
         rewrite ! 2 (λ (m : ℕ). ‵ (OwnO z m)) (sym broad) refl $
         lft-new ! tt (λ μ. move ! (3 ∷ 1 ∷ []) $
-        use2 W (later (some (λ (ε : GName). ‵ (MutSlice (named 0) (μ ∷ []) u8 .own (xo ε z) (so (length z) ∷ [])) ⊛ ‵ (LentAgain u8 κ₂ (μ ∷ []) q₂ γ′ b′ o′ ε z)))) (lends-again u8 κ₂ (μ ∷ []) q₂ γ′ b′ o′ 𝓤 H A W (named 2) (named 0) z) $ await ! tt $ pick ! (λ ε. split ! $
+        use2 W (later (some (λ (ε : GName). ‵ (MutSlice (named 0) (μ ∷ []) u8 .own (xo ε z) (so (length z) ∷ [])) ⊛ ‵ (OnLoan u8 κ₂ (μ ∷ []) q₂ γ′ b′ o′ ε z)))) (goes-on-loan u8 κ₂ (μ ∷ []) q₂ γ′ b′ o′ 𝓤 H A W (named 2) (named 0) z) $ await ! tt $ pick ! (λ ε. split ! $
         -- [the output, lent; what is kept of it; μ; the deck, the pool, κ₀ and κ₁; κ₃; the list]
         rewrite ! 0 (λ (m : ℕ). ‵ (MutSlice (named 0) (μ ∷ []) u8 .own (xo ε z) (so m ∷ []))) broad refl $
         nothing ! $ owned ! usize (Is usize) (uint-makes 𝓤 H A W w64) room _ (refl, room-fits) $ fjoin ! $ owned ! G.the-row (Is G.the-row) (LL.makes G.the-type G′.the-plain 𝓤 H A) end _ end-is $ fjoin ! $
@@ -378,7 +378,7 @@ module _ {M : Type 1} (𝓤 : URA M) (H : Heap 𝓤) (A : Atoms 𝓤) (W : Given
         move ! (4 ∷ []) $ fsplit ! $ move ! (1 ∷ []) $ fsplit ! $ move ! (1 ∷ []) $ fsplit ! $
         -- [what is kept of the output; the deck, the pool, κ₀ and κ₁; κ₃; the list; μ; true; the output's last bytes; …]
         move ! (4 ∷ []) $ lft-end ! tt $ move ! (0 ∷ 1 ∷ 6 ∷ []) $
-        use3 W (later (‵ (OwnO (zs .0) (length z)) ⊛ ‵ (flft κ₂ q₂))) (comes-back u8 κ₂ (t .μ ∷ []) q₂ γ′ b′ o′ 𝓤 H A W (named 2) (named 0) z (t .ε) (zs .0) (subst (Room u8) (sym broad) room-out) lo) $ await ! tt $ split ! $
+        use3 W (later (‵ (OwnO (zs .0) (length z)) ⊛ ‵ (flft κ₂ q₂))) (back-from-loan u8 κ₂ (t .μ ∷ []) q₂ γ′ b′ o′ 𝓤 H A W (named 2) (named 0) z (t .ε) (zs .0) (subst (Room u8) (sym broad) room-out) lo) $ await ! tt $ split ! $
         rewrite ! 0 (λ (m : ℕ). ‵ (OwnO (zs .0) m)) broad refl $
         -- [the output; κ₂; the deck, the pool, κ₀ and κ₁; κ₃; the list; …]
         at-once ! $ show ! (λ (e : Settled u). sem 𝓤 H A (All (e .out) l)) (record { last = r; out = zs .0; is = is; broad = lo ∙ broad; same = e .0; cleared = e .1; within = e .2 }) $ keep ! (1 ∷ 2 ∷ 0 ∷ 3 ∷ 4 ∷ []) $
