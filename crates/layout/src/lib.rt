@@ -33,9 +33,8 @@ pub fn put_include(
     requires { ⌜ (length (now out) ≤ 1048576) × (c .at ≤ length (now deck)) × (x .place < 2 ^ 62) ⌝ }
     ensures { λ r. ⌜ Emits settings (includeAfter (x .place) (keptIn (now (deck .entry)) (now (pool .entry)) x)) (pen w (now (out .entry))) (pen (r .w) (now (out .exit))) (c .at) (nextAt (now (deck .entry)) (now (pool .entry)) c) (r .next) (length (now (deck .entry))) ⌝ }
 {
-    let lead = x.lead;
     let w1 = w.byte(out, b' ');
-    let w2 = parts::put_include_line(w1, pool, out, x.place, lead);
+    let w2 = parts::put_include_line(w1, pool, out, x.place, x.lead);
     let next = node::subtree_end(deck, c);
     Emitted { w: w2, next }
 }
@@ -53,13 +52,11 @@ pub fn put_inlined(
     requires { ⌜ (Ready settings (now deck) (now pool) (pen w (now out)) (x .place) i) × Good (now deck) x × (countIn (x .body) < 65536) × (w .flow ≡ 0) × (w .key ≡ 0) ⌝ }
     ensures { λ r. ⌜ Emits settings (inlined (x .place) (keptIn (now (deck .entry)) (now (pool .entry)) x) (broughtIn (now (deck .entry)) (now (pool .entry)) x) (content settings false false i (nodeIn (now (deck .entry)) (now (pool .entry)) x))) (pen w (now (out .entry))) (pen (r .w) (now (out .exit))) (x .place) (endIn (now (deck .entry)) (now (pool .entry)) x) (r .next) (length (now (deck .entry))) ⌝ }
 {
-    let lead = x.lead;
-    let w1 = parts::put_props(w, pool, out, lead);
+    let w1 = parts::put_props(w, pool, out, x.lead);
     let e = flow::content(w1, deck, pool, out, settings, x, i);
-    let v = e.w;
     let next = e.next;
-    let v1 = parts::put_close(v, pool, out, x.place, lead);
-    Emitted { w: v1, next }
+    let v = parts::put_close(e.w, pool, out, x.place, x.lead);
+    Emitted { w: v, next }
 }
 
 // `emit_value_below_introducer`
@@ -75,13 +72,11 @@ fn put_below(
     requires { ⌜ (Ready settings (now deck) (now pool) (pen w (now out)) (x .place) i) × Good (now deck) x × (countIn (x .body) < 65536) × (w .flow ≡ 0) × (w .key ≡ 0) ⌝ }
     ensures { λ r. ⌜ Emits settings (belowIntroducer (x .place) (keptIn (now (deck .entry)) (now (pool .entry)) x) (broughtIn (now (deck .entry)) (now (pool .entry)) x) i (content settings false false i (nodeIn (now (deck .entry)) (now (pool .entry)) x))) (pen w (now (out .entry))) (pen (r .w) (now (out .exit))) (x .place) (endIn (now (deck .entry)) (now (pool .entry)) x) (r .next) (length (now (deck .entry))) ⌝ }
 {
-    let lead = x.lead;
-    let w1 = parts::put_below(w, deck, pool, out, x.place, lead, i);
+    let w1 = parts::put_below(w, deck, pool, out, x.place, x.lead, i);
     let e = flow::content(w1, deck, pool, out, settings, x, i);
-    let v = e.w;
     let next = e.next;
-    let v1 = v.end_line(out);
-    Emitted { w: v1, next }
+    let v = e.w.end_line(out);
+    Emitted { w: v, next }
 }
 
 // What is no block collection after `:` or `-`.
@@ -97,19 +92,17 @@ pub fn put_value(
     requires { ⌜ (Ready settings (now deck) (now pool) (pen w (now out)) (x .place) i) × Good (now deck) x × (countIn (x .body) < 65536) × (w .flow ≡ 0) × (w .key ≡ 0) ⌝ }
     ensures { λ r. ⌜ Emits settings (valueOf (bare settings (keptIn (now (deck .entry)) (now (pool .entry)) x) (kindIn (now (deck .entry)) (now (pool .entry)) x)) (x .place) (keptIn (now (deck .entry)) (now (pool .entry)) x) (broughtIn (now (deck .entry)) (now (pool .entry)) x) i (content settings false false i (nodeIn (now (deck .entry)) (now (pool .entry)) x))) (pen w (now (out .entry))) (pen (r .w) (now (out .exit))) (x .place) (endIn (now (deck .entry)) (now (pool .entry)) x) (r .next) (length (now (deck .entry))) ⌝ }
 {
-    let lead = x.lead;
-    let lines = lead.lines;
     let body = x.body;
-    let next = x.next;
-    if choices::bare(settings, pool, lines, lead.remark, body) {
-        let w1 = parts::put_props_compact(w, pool, out, lead);
+    if choices::bare(settings, pool, x.lead.lines, x.lead.remark, body) {
+        let w1 = parts::put_props_compact(w, pool, out, x.lead);
         let w2 = w1.byte(out, b'\n');
+        let next = x.next;
         return Emitted { w: w2, next };
     }
-    if parts::is_marked(lines.marks, 2) {
+    if parts::is_marked(x.lead.lines.marks, 2) {
         return put_below(w, deck, pool, out, settings, x, i);
     }
-    let w1 = w.spaces(out, pen::at_least_one(lines.pad));
+    let w1 = w.spaces(out, pen::at_least_one(x.lead.lines.pad));
     put_inlined(w1, deck, pool, out, settings, x, i)
 }
 
@@ -126,16 +119,14 @@ pub fn put_key_line(
     requires { ⌜ (Ready settings (now deck) (now pool) (pen w (now out)) (x .place) i) × Good (now deck) x × (countIn (x .body) < 65536) × (w .flow ≡ 0) × (w .key ≡ 0) ⌝ }
     ensures { λ r. ⌜ Emits settings (keyLine settings i (broughtIn (now (deck .entry)) (now (pool .entry)) x) (nodeIn (now (deck .entry)) (now (pool .entry)) x)) (pen w (now (out .entry))) (pen (r .w) (now (out .exit))) (x .place) (endIn (now (deck .entry)) (now (pool .entry)) x) (r .next) (length (now (deck .entry))) ⌝ }
 {
-    let lead = x.lead;
     let w1 = w.byte(out, b' ');
-    let w2 = parts::put_props(w1, pool, out, lead);
+    let w2 = parts::put_props(w1, pool, out, x.lead);
     let w3 = joints::with_key(w2, 1);
     let e = flow::content(w3, deck, pool, out, settings, x, i);
-    let u = e.w;
     let next = e.next;
-    let v = joints::with_key(u, 0);
-    let v1 = v.end_line(out);
-    Emitted { w: v1, next }
+    let u = joints::with_key(e.w, 0);
+    let v = u.end_line(out);
+    Emitted { w: v, next }
 }
 
 // What stands before an item or a pair.

@@ -15,7 +15,7 @@ put-below-requires c κs = search needs
 
 -- src/lib.rt:84:9
 content-requires : tie.Need-content-requires
-content-requires c κs = let p = (c .before .before .before .before .before .before .before .before .before .pre) in (after-drawn (p .0) (c .before .before .before .put-below .ensures), p .1, p .2)
+content-requires c κs = let p = (c .before .before .before .before .before .before .before .before .pre) in (after-drawn (p .0) (c .before .before .before .put-below .ensures), p .1, p .2)
 
 -- src/lib.rt:87:9
 end-line-requires : tie.Need-end-line-requires
@@ -27,7 +27,7 @@ same-length c = search needs
 
 -- src/lib.rt:70:1
 returns : tie.Need-returns
-returns c = let p = (c .before .before .before .before .before .before .before .before .before .before .before .before .before .before .before .before .before .before .pre) in below-whole _ _ _ _ _ _ _ _ _ _ (p .3) (p .4) (c .before .before .before .before .before .before .before .before .before .before .before .before .put-below .ensures) (c .before .before .before .before .before .before .before .before .content .ensures) (c .before .before .end-line .ensures)
+returns c = let p = (c .before .before .before .before .before .before .before .before .before .before .before .before .before .before .before .before .pre) in below-whole _ _ _ _ _ _ _ _ _ _ (p .3) (p .4) (c .before .before .before .before .before .before .before .before .before .before .before .put-below .ensures) (c .before .before .before .before .before .before .before .content .ensures) (c .before .before .end-line .ensures)
 
 pub put-below-spec : {M : Type 1} → statement M
 put-below-spec =

@@ -26,7 +26,7 @@ same-length c = search needs
 
 -- src/lib.rt:24:1
 returns : tie.Need-returns
-returns c = included-whole _ _ _ (c .before .before .before .before .before .before .before .before .before .before .before .before .before .args .x) _ _ (c .before .before .before .before .before .before .before .byte .ensures) (c .before .before .before .put-include-line .ensures) (c .subtree-end .ensures)
+returns c = included-whole _ _ _ (c .before .before .before .before .before .before .before .before .before .before .before .before .args .x) _ _ (c .before .before .before .before .before .before .before .byte .ensures) (c .before .before .before .put-include-line .ensures) (c .subtree-end .ensures)
 
 pub put-include-spec : {M : Type 1} → statement M
 put-include-spec =

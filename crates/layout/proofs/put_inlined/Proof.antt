@@ -15,7 +15,7 @@ put-props-requires c κs = search needs
 
 -- src/lib.rt:62:9
 content-requires : tie.Need-content-requires
-content-requires c κs = let p = (c .before .before .before .before .before .before .before .before .before .pre) in (after-drawn (p .0) (c .before .before .before .put-props .ensures), p .1, p .2)
+content-requires c κs = let p = (c .before .before .before .before .before .before .before .before .pre) in (after-drawn (p .0) (c .before .before .before .put-props .ensures), p .1, p .2)
 
 -- src/lib.rt:65:9
 put-close-requires : tie.Need-put-close-requires
@@ -27,7 +27,7 @@ same-length c = search needs
 
 -- src/lib.rt:48:1
 returns : tie.Need-returns
-returns c = let p = (c .before .before .before .before .before .before .before .before .before .before .before .before .before .before .before .before .before .before .pre) in inlined-whole _ _ _ _ _ _ _ _ _ _ (p .3) (p .4) (c .before .before .before .before .before .before .before .before .before .before .before .before .put-props .ensures) (c .before .before .before .before .before .before .before .before .content .ensures) (c .before .before .put-close .ensures)
+returns c = let p = (c .before .before .before .before .before .before .before .before .before .before .before .before .before .before .before .before .pre) in inlined-whole _ _ _ _ _ _ _ _ _ _ (p .3) (p .4) (c .before .before .before .before .before .before .before .before .before .before .before .put-props .ensures) (c .before .before .before .before .before .before .before .content .ensures) (c .before .before .put-close .ensures)
 
 pub put-inlined-spec : {M : Type 1} → statement M
 put-inlined-spec =

@@ -28,7 +28,7 @@ with-key-requires c κs = search needs
 
 -- src/lib.rt:133:9
 content-requires : tie.Need-content-requires
-content-requires c κs = let p = (c .before .before .before .before .before .before .before .before .before .before .before .before .before .before .pre) in (after-key _ _ _ _ _ _ _ (c .before .with-key .ensures) (after-drawn (after-drawn (p .0) (of-byte mark _ (c .before .before .before .before .before .before .before .before .byte .ensures))) (c .before .before .before .before .put-props .ensures)), p .1, p .2)
+content-requires c κs = let p = (c .before .before .before .before .before .before .before .before .before .before .before .before .before .pre) in (after-key _ _ _ _ _ _ _ (c .before .with-key .ensures) (after-drawn (after-drawn (p .0) (of-byte mark _ (c .before .before .before .before .before .before .before .before .byte .ensures))) (c .before .before .before .before .put-props .ensures)), p .1, p .2)
 
 -- src/lib.rt:136:9
 with-key-requires-2 : tie.Need-with-key-requires-2
@@ -36,15 +36,15 @@ with-key-requires-2 c κs = search needs
 
 -- src/lib.rt:137:9
 end-line-requires : tie.Need-end-line-requires
-end-line-requires c κs = let p = (c .before .before .before .before .before .before .before .before .before .before .before .before .before .before .before .before .before .before .before .before .before .pre) in let z = after (after-key _ _ _ _ _ _ _ (c .before .before .before .before .before .before .before .before .with-key .ensures) (after-drawn (after-drawn (p .0) (of-byte mark _ (c .before .before .before .before .before .before .before .before .before .before .before .before .before .before .before .byte .ensures))) (c .before .before .before .before .before .before .before .before .before .before .before .put-props .ensures))) _ _ _ (c .before .before .before .before .before .before .content .ensures .drawn) in omega (arith, z .out-small)
+end-line-requires c κs = let p = (c .before .before .before .before .before .before .before .before .before .before .before .before .before .before .before .before .before .before .before .pre) in let z = after (after-key _ _ _ _ _ _ _ (c .before .before .before .before .before .before .before .with-key .ensures) (after-drawn (after-drawn (p .0) (of-byte mark _ (c .before .before .before .before .before .before .before .before .before .before .before .before .before .before .byte .ensures))) (c .before .before .before .before .before .before .before .before .before .before .put-props .ensures))) _ _ _ (c .before .before .before .before .before .content .ensures .drawn) in omega (arith, z .out-small)
 
 -- src/lib.rt:117:1
 same-length : tie.Need-same-length
-same-length c = let p = (c .before .before .before .before .before .before .before .before .before .before .before .before .before .before .before .before .before .before .before .before .before .before .before .before .pre) in kept-length (c .before .before .before .before .before .before .before .before .before .before .before .before .before .before .before .before .before .before .before .before .before .before .before .before .args .settings) (key-line-whole _ _ _ _ _ _ _ _ _ _ _ _ _ _ _ _ (p .3) (p .4) (c .before .before .before .before .before .before .before .before .before .before .before .before .before .before .before .before .before .before .byte .ensures) (c .before .before .before .before .before .before .before .before .before .before .before .before .before .before .put-props .ensures) (c .before .before .before .before .before .before .before .before .before .before .before .with-key .ensures) (c .before .before .before .before .before .before .before .before .before .content .ensures) (c .before .before .before .before .with-key2 .ensures) (c .before .before .end-line .ensures))
+same-length c = let p = (c .before .before .before .before .before .before .before .before .before .before .before .before .before .before .before .before .before .before .before .before .before .before .pre) in kept-length (c .before .before .before .before .before .before .before .before .before .before .before .before .before .before .before .before .before .before .before .before .before .before .args .settings) (key-line-whole _ _ _ _ _ _ _ _ _ _ _ _ _ _ _ _ (p .3) (p .4) (c .before .before .before .before .before .before .before .before .before .before .before .before .before .before .before .before .before .byte .ensures) (c .before .before .before .before .before .before .before .before .before .before .before .before .before .put-props .ensures) (c .before .before .before .before .before .before .before .before .before .before .with-key .ensures) (c .before .before .before .before .before .before .before .before .content .ensures) (c .before .before .before .before .with-key2 .ensures) (c .before .before .end-line .ensures))
 
 -- src/lib.rt:117:1
 returns : tie.Need-returns
-returns c = let p = (c .before .before .before .before .before .before .before .before .before .before .before .before .before .before .before .before .before .before .before .before .before .before .before .before .pre) in key-line-whole _ _ _ _ _ _ _ _ _ _ _ _ _ _ _ _ (p .3) (p .4) (c .before .before .before .before .before .before .before .before .before .before .before .before .before .before .before .before .before .before .byte .ensures) (c .before .before .before .before .before .before .before .before .before .before .before .before .before .before .put-props .ensures) (c .before .before .before .before .before .before .before .before .before .before .before .with-key .ensures) (c .before .before .before .before .before .before .before .before .before .content .ensures) (c .before .before .before .before .with-key2 .ensures) (c .before .before .end-line .ensures)
+returns c = let p = (c .before .before .before .before .before .before .before .before .before .before .before .before .before .before .before .before .before .before .before .before .before .before .pre) in key-line-whole _ _ _ _ _ _ _ _ _ _ _ _ _ _ _ _ (p .3) (p .4) (c .before .before .before .before .before .before .before .before .before .before .before .before .before .before .before .before .before .byte .ensures) (c .before .before .before .before .before .before .before .before .before .before .before .before .before .put-props .ensures) (c .before .before .before .before .before .before .before .before .before .before .with-key .ensures) (c .before .before .before .before .before .before .before .before .content .ensures) (c .before .before .before .before .with-key2 .ensures) (c .before .before .end-line .ensures)
 
 pub put-key-line-spec : {M : Type 1} → statement M
 put-key-line-spec =

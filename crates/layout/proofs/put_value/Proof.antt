@@ -37,7 +37,7 @@ same-length c = search needs
 
 -- src/lib.rt:111:9
 returns : tie.Need-returns
-returns c = value-bare _ _ _ _ _ _ ((c .before .before .before .before .before .before .before .before .before .before .before .before .before .before .before .before .pre) .1) (c .before .before .before .before .before .before .before .before .before .bare .ensures) (c .before .before .before .before .before .before .before .before .if1 .taken) (c .before .before .before .before .before .before .put-props-compact .ensures) (c .before .before .byte .ensures)
+returns c = value-bare _ _ _ _ _ _ ((c .before .before .before .before .before .before .before .before .before .before .before .before .before .before .pre) .1) (c .before .before .before .before .before .before .before .before .before .before .bare .ensures) (c .before .before .before .before .before .before .before .before .before .if1 .taken) (c .before .before .before .before .before .before .before .put-props-compact .ensures) (c .before .before .before .byte .ensures)
 
 -- src/lib.rt:113:8
 is-marked-requires : tie.Need-is-marked-requires
@@ -65,7 +65,7 @@ spaces-requires c κs = search needs
 
 -- src/lib.rt:117:5
 put-inlined-requires : tie.Need-put-inlined-requires
-put-inlined-requires c κs = let p = (c .before .before .before .before .before .before .before .before .before .before .before .before .before .before .before .before .pre) in let d = of-puts space _ (c .before .before .before .spaces .ensures) in let t = (c .before .before .before .before .before .before .before .before .before .before .before .before .before .before .before .before .args .settings) in (after-drawn (p .0) d, p .1, p .2, flow-of t (put space (spaces (c .before .before .before .before .at-least-one .result))) _ _ (d .drawn t) ∙ p .3, key-of t (put space (spaces (c .before .before .before .before .at-least-one .result))) _ _ (d .drawn t) ∙ p .4)
+put-inlined-requires c κs = let p = (c .before .before .before .before .before .before .before .before .before .before .before .before .before .pre) in let d = of-puts space _ (c .before .before .before .spaces .ensures) in let t = (c .before .before .before .before .before .before .before .before .before .before .before .before .before .args .settings) in (after-drawn (p .0) d, p .1, p .2, flow-of t (put space (spaces (c .before .before .before .before .at-least-one .result))) _ _ (d .drawn t) ∙ p .3, key-of t (put space (spaces (c .before .before .before .before .at-least-one .result))) _ _ (d .drawn t) ∙ p .4)
 
 -- src/lib.rt:92:1
 same-length-3 : tie.Need-same-length-3
