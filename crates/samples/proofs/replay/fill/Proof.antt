@@ -4,8 +4,8 @@ use native.Mathlib.Omega.{arith}
 use mathlib.Core.Path.{_≡_}
 use lib.ListN.{length, length-set}
 use borrow.Author.Needs.{needs}
-use Rattle.replay.proofs.fill.Statement.{statement}
-use Rattle.replay.proofs.fill.Tie as tie
+use Rattle.samples.proofs.replay.fill.Statement.{statement}
+use Rattle.samples.proofs.replay.fill.Tie as tie
 
 abbrev Inv-loop : tie.InvT-loop
 Inv-loop out₀ i₀ out i = length out ≡ length out₀

@@ -3,8 +3,8 @@ use Prim.Native.Nat.{_≤_}
 use mathlib.Core.Path.{_≡_}
 use lib.ListN.{length}
 use borrow.Author.Needs.{needs}
-use Rattle.replay.proofs.repeat.Statement.{statement}
-use Rattle.replay.proofs.repeat.Tie as tie
+use Rattle.samples.proofs.replay.repeat.Statement.{statement}
+use Rattle.samples.proofs.replay.repeat.Tie as tie
 
 abbrev Inv-loop : tie.InvT-loop
 Inv-loop piece times out₀ to left₀ end₀ out left end = (end ≤ length out) × (length out ≡ length out₀)

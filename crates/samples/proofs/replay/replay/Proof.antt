@@ -3,8 +3,8 @@ use Prim.Native.Nat.{_+_, _≤_, _<_, _^_}
 use mathlib.Core.Path.{_≡_}
 use lib.ListN.{length}
 use borrow.Author.Needs.{needs}
-use Rattle.replay.proofs.replay.Statement.{statement}
-use Rattle.replay.proofs.replay.Tie as tie
+use Rattle.samples.proofs.replay.replay.Statement.{statement}
+use Rattle.samples.proofs.replay.replay.Tie as tie
 
 abbrev Inv-loop : tie.InvT-loop
 Inv-loop list deck₀ pool₀ out₀ t₀ at₀ left₀ deck pool out t at left = (t .good + t .bad + t .other + left < 2 ^ 32) × (at ≤ length list) × (length deck ≡ length deck₀) × (length pool ≡ length pool₀) × (length out ≡ length out₀)

@@ -4,8 +4,8 @@ use native.Mathlib.Omega.{arith}
 use mathlib.Core.Path.{_≡_}
 use lib.ListN.{length, length-set}
 use borrow.Author.Needs.{needs}
-use Rattle.replay.proofs.copy.Statement.{statement}
-use Rattle.replay.proofs.copy.Tie as tie
+use Rattle.samples.proofs.replay.copy.Statement.{statement}
+use Rattle.samples.proofs.replay.copy.Tie as tie
 
 abbrev Inv-loop : tie.InvT-loop
 Inv-loop piece out₀ to i₀ out i = (i ≤ length piece) × (to + i ≤ length out) × (length out ≡ length out₀)

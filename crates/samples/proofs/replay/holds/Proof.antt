@@ -2,8 +2,8 @@
 use mathlib.Core.Path.{sym}
 use lib.Seq.{length-take-le}
 use borrow.Author.Needs.{needs}
-use Rattle.replay.proofs.holds.Statement.{statement}
-use Rattle.replay.proofs.holds.Tie as tie
+use Rattle.samples.proofs.replay.holds.Statement.{statement}
+use Rattle.samples.proofs.replay.holds.Tie as tie
 
 long-requires : tie.Need-long-requires
 long-requires c κs = search needs

@@ -2,8 +2,8 @@
 use Prim.Native.Nat.{_-_, _≤_}
 use lib.ListN.{length}
 use borrow.Author.Needs.{needs}
-use Rattle.replay.proofs.hash.Statement.{statement}
-use Rattle.replay.proofs.hash.Tie as tie
+use Rattle.samples.proofs.replay.hash.Statement.{statement}
+use Rattle.samples.proofs.replay.hash.Tie as tie
 
 abbrev Inv-loop : tie.InvT-loop
 Inv-loop out h₀ i₀ h i = i ≤ length out

@@ -3,8 +3,8 @@ use Prim.Native.Nat.{_-_, _≤_}
 use mathlib.Core.Path.{_≡_}
 use lib.ListN.{length}
 use borrow.Author.Needs.{needs}
-use Rattle.replay.proofs.expand.Statement.{statement}
-use Rattle.replay.proofs.expand.Tie as tie
+use Rattle.samples.proofs.replay.expand.Statement.{statement}
+use Rattle.samples.proofs.replay.expand.Tie as tie
 
 abbrev Inv-loop : tie.InvT-loop
 Inv-loop coded out₀ at₀ to₀ out at to = (at ≤ length coded) × (to ≤ length out) × (length out ≡ length out₀)
