@@ -44,7 +44,7 @@ pub enum Leaf {
     /// A raw text as the whole document, with an inline comment or without one.
     Raw { noted: bool },
     /// The inline comments of the nodes at two places.
-    Comments { first: usize, second: usize },
+    Comments { first: u8, second: usize },
     /// A scalar; in flow it is the first item and stands at column 1.
     Scalar {
         place: Place,
@@ -67,7 +67,7 @@ pub enum Leaf {
     Deck { number: usize, place: usize },
 }
 
-/// A row. The note is a comment, or a deck's pool.
+/// A row. The note is a comment, the text of a block scalar again, or a deck's pool.
 #[derive(Debug, Clone, PartialEq)]
 pub struct Row {
     pub name: &'static str,
@@ -113,10 +113,11 @@ pub fn rows() -> Vec<Row> {
 pub fn encode(rows: &[Row]) -> Vec<u8> {
     let mut made = word(rows.len()).to_vec();
     for row in rows {
-        let (kind, style, numbers) = head(&row.leaf);
+        let (kind, style, numbers, follow) = head(&row.leaf);
         let parts = [row.name.as_bytes(), &row.text, &row.note, &row.want];
         made.extend([kind, style]);
         made.extend(numbers.into_iter().flat_map(word));
+        made.extend(follow);
         made.extend(parts.into_iter().flat_map(|part| word(part.len())));
         made.extend(parts.concat());
     }
@@ -127,8 +128,27 @@ fn word(number: usize) -> [u8; 2] {
     u16::try_from(number).unwrap().to_le_bytes()
 }
 
-/// Kind, style or marker, and the four numbers.
-fn head(leaf: &Leaf) -> (u8, u8, [usize; 4]) {
+const BLOCK_BODY: u8 = 1;
+const INLINE_COMMENT: u8 = 2;
+const LINE_END: u8 = 3;
+
+/// Kind, style, the four numbers, and the two steps that follow the first.
+fn head(leaf: &Leaf) -> (u8, u8, [usize; 4], [u8; 2]) {
+    match *leaf {
+        Leaf::Block { marker, indent } => (4, marker, [0, indent, 0, 0], [BLOCK_BODY, 0]),
+        Leaf::Comment { spaces } => (5, 0, [0, spaces, 0, 0], [INLINE_COMMENT, LINE_END]),
+        Leaf::Raw { noted: false } => (6, 0, [0; 4], [LINE_END, 0]),
+        Leaf::Raw { noted: true } => (6, 0, [0, 1, 0, 0], [INLINE_COMMENT, LINE_END]),
+        Leaf::Comments { first, second } => (7, first, [0, 1, second, 0], [INLINE_COMMENT, 0]),
+        _ => {
+            let (kind, style, numbers) = alone(leaf);
+            (kind, style, numbers, [0, 0])
+        }
+    }
+}
+
+/// The same of leaves that are one step.
+fn alone(leaf: &Leaf) -> (u8, u8, [usize; 4]) {
     match *leaf {
         Leaf::Body { single } => (0, 0, [0, 0, 0, single.into()]),
         Leaf::Folded {
@@ -137,10 +157,6 @@ fn head(leaf: &Leaf) -> (u8, u8, [usize; 4]) {
             indent,
             width,
         } => (1, 0, [column, indent, width, single.into()]),
-        Leaf::Block { marker, indent } => (2, marker, [0, indent, 0, 0]),
-        Leaf::Comment { spaces } => (3, 0, [0, spaces, 0, 0]),
-        Leaf::Raw { noted } => (4, 0, [0, noted.into(), 0, 0]),
-        Leaf::Comments { first, second } => (5, 0, [first, second, 0, 0]),
         Leaf::Scalar {
             place,
             style,
@@ -149,20 +165,21 @@ fn head(leaf: &Leaf) -> (u8, u8, [usize; 4]) {
         } => {
             let (flow, key) = (place == Place::Flow, place == Place::Key);
             let numbers = [flow.into(), single_quotes.into(), width, key.into()];
-            (6, style, numbers)
+            (2, style, numbers)
         }
         Leaf::Separator {
             key,
             indent,
             column,
             width,
-        } => (7, 0, [column, indent, width, key.into()]),
+        } => (3, 0, [column, indent, width, key.into()]),
         Leaf::NonPrintable { character, answer } => {
             let (low, high) = (character % 65536, character / 65536);
             (8, 0, [answer.into(), low as usize, high as usize, 0])
         }
         Leaf::Test { test, answer } => (9 + test as u8, 0, [answer.into(), 0, 0, 0]),
         Leaf::Deck { number, place } => (14, 0, [number, place, 0, 0]),
+        _ => panic!("{leaf:?} has more than one step."),
     }
 }
 
@@ -223,7 +240,7 @@ fn fold_single(name: &'static str, text: &[u8], width: usize, want: &[u8]) -> Ro
 }
 
 fn block(name: &'static str, text: &[u8], marker: u8, indent: usize, want: &[u8]) -> Row {
-    row(name, Leaf::Block { marker, indent }, text, want)
+    noted(row(name, Leaf::Block { marker, indent }, text, want), text)
 }
 
 /// An inline comment behind `null`.
@@ -231,7 +248,7 @@ fn comment(name: &'static str, note: &[u8], spaces: usize, want: &[u8]) -> Row {
     noted(row(name, Leaf::Comment { spaces }, b"null", want), note)
 }
 
-fn comments(name: &'static str, first: usize, second: usize, want: &[u8]) -> Row {
+fn comments(name: &'static str, first: u8, second: usize, want: &[u8]) -> Row {
     noted(
         row(name, Leaf::Comments { first, second }, b"c", want),
         b"d",

@@ -3,8 +3,8 @@ ghost use Prim.Native.Nat.{_≤_};
 ghost use lib.ListN.{length};
 use libc::STDOUT_FILENO;
 
-// Where a row's name begins: after its kind, its style, four numbers and four lengths.
-const HEAD: usize = 18;
+// Where a row's name begins: after its kind, its style, four numbers, two steps that follow and four lengths.
+const HEAD: usize = 20;
 
 // The line of a sample.
 fn say(name: &[u8], good: bool) {
@@ -32,10 +32,10 @@ fn holds(row: &[u8], t: &[u8], note: &[u8], want: &[u8]) -> bool
 fn sample(row: &[u8]) -> usize
     ensures { λ r. ⌜ r ≤ length (now (row .entry)) ⌝ }
 {
-    let text = HEAD + deck::word(row, 10);
-    let note = text + deck::word(row, 12);
-    let want = note + deck::word(row, 14);
-    let end = want + deck::word(row, 16);
+    let text = HEAD + deck::word(row, 12);
+    let note = text + deck::word(row, 14);
+    let want = note + deck::word(row, 16);
+    let end = want + deck::word(row, 18);
     if end > row.len() {
         return 0;
     }

@@ -1,4 +1,5 @@
-// Quoted bodies, block scalars, lines with comments, scalars and separators, each into an empty output.
+// Quoted bodies, block scalars, lines with comments, scalars and separators, each into an empty output. A row has a first step, which takes the
+// text, and two that may follow, which take the note.
 ghost use Prim.Native.Nat.{_≤_, _<_, _^_};
 ghost use mathlib.Core.Path.{_≡_};
 ghost use lib.ListN.{length};
@@ -7,6 +8,34 @@ use definition::Settings;
 use definition::Style;
 use pen::Writer;
 use quoted::Fold;
+
+// The numbers of a row. A style may be a marker, or the place of a first comment; an indent, the spaces before a comment; a width, the place of a
+// comment that follows.
+struct Numbers {
+    kind: usize,
+    style: usize,
+    column: usize,
+    indent: usize,
+    width: usize,
+    mark: bool,
+    second: usize,
+    third: usize,
+}
+
+fn numbers_of(row: &[u8]) -> Numbers
+    ensures { λ r. ⌜ (r .style < 256) × (r .column < 65536) × (r .indent < 65536) × (r .width < 65536) ⌝ }
+{
+    Numbers {
+        kind: deck::byte(row, 0),
+        style: deck::byte(row, 1),
+        column: deck::word(row, 2),
+        indent: deck::word(row, 4),
+        width: deck::word(row, 6),
+        mark: deck::word(row, 8) > 0,
+        second: deck::byte(row, 10),
+        third: deck::byte(row, 11),
+    }
+}
 
 // A writer in an empty output that stands at a column.
 fn fresh(column: usize) -> Writer
@@ -48,132 +77,72 @@ fn style_of(n: usize) -> Style {
     }
 }
 
-// ---- quoted bodies and block scalars
-
-fn body(row: &[u8], t: &[u8], out: &mut [u8]) -> Writer
-    requires { ⌜ (length (now t) ≤ 65536) × (length (now out) < 2 ^ 62) ⌝ }
+// A body folded: it begins at the column, and later lines at the indent.
+fn folded(w: Writer, out: &mut [u8], t: &[u8], n: Numbers) -> Writer
+    requires { ⌜ (length (now t) ≤ 65536) × (length (now out) < 2 ^ 62) × (n .column < 65536) × (n .indent < 65536) ⌝ }
 {
-    quoted::put_body(fresh(0), out, t, deck::word(row, 8) > 0)
-}
-
-// A body folded: it begins at a column, and later lines at an indent.
-fn folded(row: &[u8], t: &[u8], out: &mut [u8]) -> Writer
-    requires { ⌜ (length (now t) ≤ 65536) × (length (now out) < 2 ^ 62) ⌝ }
-{
-    let start = deck::word(row, 2);
     let f = Fold {
-        indent: deck::word(row, 4),
-        width: deck::word(row, 6),
+        indent: n.indent,
+        width: n.width,
     };
-    quoted::put_folded(fresh(start), out, t, deck::word(row, 8) > 0, start, f)
+    quoted::put_folded(w, out, t, n.mark, n.column, f)
 }
 
-// Header and body of a block scalar.
-fn block(row: &[u8], t: &[u8], out: &mut [u8]) -> Writer
-    requires { ⌜ length (now out) < 2 ^ 62 ⌝ }
+// A scalar, in flow unless it stands at column 0; a block scalar's lines stand at column 2.
+fn scalar(w: Writer, out: &mut [u8], t: &[u8], n: Numbers) -> Writer
+    requires { ⌜ (length (now t) ≤ 65536) × (length (now out) < 2 ^ 62) × (w .column < 65536) ⌝ }
 {
-    let w = blocks::put_header(fresh(0), out, t, deck::byte(row, 1) as u8);
-    blocks::put_block_body(w, out, t, deck::word(row, 4))
+    let s = settings(n.width, n.indent > 0);
+    scalar::put_scalar(w, out, s, n.column > 0, n.mark, t, style_of(n.style), 2)
 }
 
-fn text(row: &[u8], t: &[u8], out: &mut [u8]) -> Writer
+// The first step of a line: the header of a block scalar, a text, a raw text, or an inline comment.
+fn line(w: Writer, out: &mut [u8], t: &[u8], n: Numbers) -> Writer
+    requires { ⌜ (length (now out) < 2 ^ 62) × (w .len ≡ 0) × (n .style < 256) ⌝ }
+{
+    let kind = n.kind;
+    match kind {
+        4 => blocks::put_header(w, out, t, n.style as u8),
+        5 => w.text(out, t),
+        6 => w.replay(out, t),
+        _ => w.comment(out, n.style, n.indent, t),
+    }
+}
+
+// The first step.
+fn put(w: Writer, out: &mut [u8], t: &[u8], n: Numbers) -> Writer
+    requires { ⌜ (length (now t) ≤ 65536) × (length (now out) < 2 ^ 62) × (w .len ≡ 0) × (w .column ≡ n .column) × (n .style < 256) × (n .column < 65536) × (n .indent < 65536) ⌝ }
+{
+    let kind = n.kind;
+    match kind {
+        0 => quoted::put_body(w, out, t, n.mark),
+        1 => folded(w, out, t, n),
+        2 => scalar(w, out, t, n),
+        3 => scalar::put_separator(w, out, settings(n.width, false), n.mark, n.indent),
+        _ => line(w, out, t, n),
+    }
+}
+
+// A step that follows: nothing, the body of a block scalar, an inline comment, or the line's end.
+fn follow(kind: usize, w: Writer, out: &mut [u8], note: &[u8], n: Numbers) -> Writer
+    requires { ⌜ (length (now out) < 2 ^ 62) × (n .width < 65536) ⌝ }
+{
+    match kind {
+        0 => w,
+        1 => blocks::put_block_body(w, out, note, n.indent),
+        2 => w.comment(out, n.width, n.indent, note),
+        _ => w.end_line(out),
+    }
+}
+
+// The steps of a row.
+fn steps(row: &[u8], t: &[u8], note: &[u8], out: &mut [u8]) -> Writer
     requires { ⌜ (length (now t) ≤ 65536) × (length (now out) < 2 ^ 62) ⌝ }
 {
-    match deck::byte(row, 0) {
-        0 => body(row, t, out),
-        1 => folded(row, t, out),
-        _ => block(row, t, out),
-    }
-}
-
-// ---- lines
-
-// What follows on a line: an inline comment, unless it has no spaces before it, and the line's end.
-fn rest(w: Writer, out: &mut [u8], spaces: usize, note: &[u8]) -> Writer
-    requires { ⌜ length (now out) < 2 ^ 62 ⌝ }
-{
-    if spaces == 0 {
-        return w.end_line(out);
-    }
-    let w = w.comment(out, 0, spaces, note);
-    w.end_line(out)
-}
-
-// A text, and the rest of its line.
-fn texted(row: &[u8], t: &[u8], note: &[u8], out: &mut [u8]) -> Writer
-    requires { ⌜ length (now out) < 2 ^ 62 ⌝ }
-{
-    let w = fresh(0).text(out, t);
-    rest(w, out, deck::word(row, 4), note)
-}
-
-// A raw text as the whole document, and the rest of its line.
-fn replayed(row: &[u8], t: &[u8], note: &[u8], out: &mut [u8]) -> Writer
-    requires { ⌜ length (now out) < 2 ^ 62 ⌝ }
-{
-    let w = fresh(0).replay(out, t);
-    rest(w, out, deck::word(row, 4), note)
-}
-
-// The inline comments of two nodes: the second is written only where it is another node's.
-fn comments(row: &[u8], t: &[u8], note: &[u8], out: &mut [u8]) -> Writer
-    requires { ⌜ length (now out) < 2 ^ 62 ⌝ }
-{
-    let w = fresh(0).comment(out, deck::word(row, 2), 1, t);
-    w.comment(out, deck::word(row, 4), 1, note)
-}
-
-fn line(row: &[u8], t: &[u8], note: &[u8], out: &mut [u8]) -> Writer
-    requires { ⌜ length (now out) < 2 ^ 62 ⌝ }
-{
-    match deck::byte(row, 0) {
-        3 => texted(row, t, note, out),
-        4 => replayed(row, t, note, out),
-        _ => comments(row, t, note, out),
-    }
-}
-
-// ---- scalars
-
-// A scalar at a column, in flow unless it is column 0; a block scalar's lines stand at column 2.
-fn scalar(row: &[u8], t: &[u8], out: &mut [u8]) -> Writer
-    requires { ⌜ (length (now t) ≤ 65536) × (length (now out) < 2 ^ 62) ⌝ }
-{
-    let column = deck::word(row, 2);
-    let s = settings(deck::word(row, 6), deck::word(row, 4) > 0);
-    let style = style_of(deck::byte(row, 1));
-    scalar::put_scalar(
-        fresh(column),
-        out,
-        s,
-        column > 0,
-        deck::word(row, 8) > 0,
-        t,
-        style,
-        2,
-    )
-}
-
-// What stands between two entries, where the first ends at a column.
-fn separator(row: &[u8], out: &mut [u8]) -> Writer
-    requires { ⌜ length (now out) < 2 ^ 62 ⌝ }
-{
-    let w = fresh(deck::word(row, 2));
-    let s = settings(deck::word(row, 6), false);
-    scalar::put_separator(w, out, s, deck::word(row, 8) > 0, deck::word(row, 4))
-}
-
-// ---- all of them
-
-fn put(row: &[u8], t: &[u8], note: &[u8], out: &mut [u8]) -> Writer
-    requires { ⌜ (length (now t) ≤ 65536) × (length (now out) < 2 ^ 62) ⌝ }
-{
-    match deck::byte(row, 0) {
-        0..=2 => text(row, t, out),
-        3..=5 => line(row, t, note, out),
-        6 => scalar(row, t, out),
-        _ => separator(row, out),
-    }
+    let n = numbers_of(row);
+    let w = put(fresh(n.column), out, t, n);
+    let w = follow(n.second, w, out, note, n);
+    follow(n.third, w, out, note, n)
 }
 
 // The output begins with these bytes, `n` in number.
@@ -189,7 +158,7 @@ pub fn holds(row: &[u8], t: &[u8], note: &[u8], want: &[u8]) -> bool
     requires { ⌜ length (now t) ≤ 65536 ⌝ }
 {
     let mut out = [0u8; 256];
-    let w = put(row, t, note, &mut out);
+    let w = steps(row, t, note, &mut out);
     if w.under > 255 {
         return false;
     }
