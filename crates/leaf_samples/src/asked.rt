@@ -3,16 +3,11 @@ ghost use Prim.Native.Nat.{_≤_};
 ghost use lib.ListN.{length};
 use judge::Verdict;
 
-// The character of a row.
-fn character(row: &[u8]) -> u32 {
-    (deck::word(row, 4) + 65536 * deck::word(row, 6)) as u32
-}
-
 pub fn answer(row: &[u8], t: &[u8]) -> bool
     requires { ⌜ length (now t) ≤ 65536 ⌝ }
 {
     match deck::byte(row, 0) {
-        8 => chars::is_non_printable(character(row)),
+        8 => chars::is_non_printable((deck::word(row, 4) + 65536 * deck::word(row, 6)) as u32),
         9 => utf8::well_formed(t),
         10 => scalar::starts_bom(t),
         11 => scalar::unsafe_in_flow(t),
