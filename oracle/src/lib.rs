@@ -14,6 +14,7 @@ pub mod fixed;
 pub mod included;
 pub mod judge;
 pub mod kinds;
+pub mod leaf_rows;
 pub mod leaves;
 pub mod property;
 pub mod random;

@@ -2,8 +2,8 @@
 use mathlib.Core.Path.{sym}
 use lib.Seq.{length-take-le}
 use borrow.Author.Needs.{needs}
-use Rattle.sampling.proofs.begins.Statement.{statement}
-use Rattle.sampling.proofs.begins.Tie as tie
+use Rattle.leaf_samples.proofs.written.begins.Statement.{statement}
+use Rattle.leaf_samples.proofs.written.begins.Tie as tie
 
 returns : tie.Need-returns
 returns c = search needs
