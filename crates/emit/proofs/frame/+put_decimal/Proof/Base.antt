@@ -2,11 +2,11 @@
 use Prim.Native.Nat.{ℕ, _<_}
 use borrow.Fn.Kinds.{In}
 use borrow.Fn.PlainCycle.{Measures, is, falls, and}
-use Rattle.frame.proofs.put_decimal.Reads as put-decimal
-use Rattle.frame.proofs.put_decimal.Kinds as put-decimal-kinds
-use Rattle.frame.proofs.+put_decimal.Lts-put_decimal as put-decimal-lts
-use Rattle.frame.proofs.digit.Reads as digit-reads
-use Rattle.frame.proofs.put.Reads as put-reads
+use Rattle.emit.proofs.frame.put_decimal.Reads as put-decimal
+use Rattle.emit.proofs.frame.put_decimal.Kinds as put-decimal-kinds
+use Rattle.emit.proofs.frame.+put_decimal.Lts-put_decimal as put-decimal-lts
+use Rattle.emit.proofs.frame.digit.Reads as digit-reads
+use Rattle.emit.proofs.frame.put.Reads as put-reads
 
 abbrev pub μ-put-decimal : Measures 1 put-decimal-kinds.ps ℕ
 μ-put-decimal κs a = a .1 .1 .0

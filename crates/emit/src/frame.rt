@@ -6,8 +6,8 @@ ghost use mathlib.Core.List.{[], _∷_};
 ghost use lib.ListN.{length};
 ghost use Rattle.definition.specs.Program.{refusalLine, shown, emitInto, program};
 ghost use Rattle.definition.specs.Program.{decimal as digitsOf};
-ghost use Rattle.frame.specs.Front.{Adds, Shows, blank};
-ghost use Rattle.frame.specs.Cut.{deckLength};
+ghost use Rattle.emit.specs.Front.{Adds, Shows, blank};
+ghost use Rattle.emit.specs.Cut.{deckLength};
 
 // What the program lends: four bytes of length, the longest deck, the longest pool, and one byte by which too much is seen.
 pub fn input() -> [u8; 131077]

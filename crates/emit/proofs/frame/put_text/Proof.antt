@@ -3,10 +3,10 @@ use Prim.Native.Nat.{_+_, _-_, _≤_}
 use native.Mathlib.Omega.{arith}
 use mathlib.Core.Path.{_≡_, refl}
 use lib.ListN.{length, take, length-set}
-use Rattle.frame.specs.Front.{Adds, adds-none, adds-next, adds-all}
+use Rattle.emit.specs.Front.{Adds, adds-none, adds-next, adds-all}
 use borrow.Author.Needs.{needs}
-use Rattle.frame.proofs.put_text.Statement.{statement}
-use Rattle.frame.proofs.put_text.Tie as tie
+use Rattle.emit.proofs.frame.put_text.Statement.{statement}
+use Rattle.emit.proofs.frame.put_text.Tie as tie
 
 abbrev Inv-loop : tie.InvT-loop
 Inv-loop out₀ at text i₀ out i = Adds (take i text) at out₀ (at + i) out × (i ≤ length text) × (length out ≡ length out₀)

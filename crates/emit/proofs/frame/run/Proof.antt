@@ -2,12 +2,12 @@
 use native.Mathlib.Omega.{arith}
 use mathlib.Core.Path.{ap, _∙_}
 use lib.ListN.{length}
-use Rattle.frame.specs.Front.{blank-length}
-use Rattle.frame.specs.Cut.{short-program}
-use Rattle.frame.proofs.Laws.{shows-stated, shows-cut}
+use Rattle.emit.specs.Front.{blank-length}
+use Rattle.emit.specs.Cut.{short-program}
+use Rattle.emit.proofs.frame.Laws.{shows-stated, shows-cut}
 use borrow.Author.Needs.{needs}
-use Rattle.frame.proofs.run.Statement.{statement}
-use Rattle.frame.proofs.run.Tie as tie
+use Rattle.emit.proofs.frame.run.Statement.{statement}
+use Rattle.emit.proofs.frame.run.Tie as tie
 
 slice-aggregate-show : tie.Need-slice-aggregate-show
 slice-aggregate-show c = search needs

@@ -2,11 +2,11 @@
 use native.Mathlib.Omega.{arith}
 use mathlib.Core.Path.{ap, _∙_}
 use lib.ListN.{length}
-use Rattle.frame.specs.Front.{blank-length}
-use Rattle.frame.proofs.Laws.{shows-refusal, shows-answer}
+use Rattle.emit.specs.Front.{blank-length}
+use Rattle.emit.proofs.frame.Laws.{shows-refusal, shows-answer}
 use borrow.Author.Needs.{needs}
-use Rattle.frame.proofs.show.Statement.{statement}
-use Rattle.frame.proofs.show.Tie as tie
+use Rattle.emit.proofs.frame.show.Statement.{statement}
+use Rattle.emit.proofs.frame.show.Tie as tie
 
 emit-roundtrip-all-with-requires : tie.Need-emit-roundtrip-all-with-requires
 emit-roundtrip-all-with-requires c κs = search needs

@@ -1,11 +1,11 @@
 -- `put_decimal`: the digits before the last are its own, of a number that has one less.
 use native.Mathlib.Omega.{arith}
-use Rattle.frame.proofs.Laws.{no-digits, one-digit, more-digits}
+use Rattle.emit.proofs.frame.Laws.{no-digits, one-digit, more-digits}
 use borrow.Author.Needs.{needs}
 use Prim.Native.Nat.{ℕ}
-use Rattle.frame.proofs.put_decimal.Reads as put-decimal
-use Rattle.frame.proofs.+put_decimal.Lts-put_decimal as put-decimal-lts
-use Rattle.frame.proofs.+put_decimal.Proof.Base.{put-decimal-at, put-decimal-claims}
+use Rattle.emit.proofs.frame.put_decimal.Reads as put-decimal
+use Rattle.emit.proofs.frame.+put_decimal.Lts-put_decimal as put-decimal-lts
+use Rattle.emit.proofs.frame.+put_decimal.Proof.Base.{put-decimal-at, put-decimal-claims}
 
 pub put-decimal-returns : (t : ℕ) → put-decimal-lts.Need-returns (put-decimal-claims t) (put-decimal-at t) put-decimal.Post
 put-decimal-returns t c = (no-digits _ _ _ _ (c .if1 .taken), omega arith)

@@ -1,10 +1,10 @@
 -- `refuse`: five texts, one after another.
 use native.Mathlib.Omega.{arith}
 use Rattle.definition.specs.Program.{refusalLine}
-use Rattle.frame.specs.Front.{adds-then, adds-shows}
+use Rattle.emit.specs.Front.{adds-then, adds-shows}
 use borrow.Author.Needs.{needs}
-use Rattle.frame.proofs.refuse.Statement.{statement}
-use Rattle.frame.proofs.refuse.Tie as tie
+use Rattle.emit.proofs.frame.refuse.Statement.{statement}
+use Rattle.emit.proofs.frame.refuse.Tie as tie
 
 slice-aggregate-put-text : tie.Need-slice-aggregate-put-text
 slice-aggregate-put-text c = search needs

@@ -1,8 +1,8 @@
 -- `deck_length` reads four bytes.
-use Rattle.frame.specs.Cut.{deckLength}
+use Rattle.emit.specs.Cut.{deckLength}
 use borrow.Author.Needs.{needs}
-use Rattle.frame.proofs.deck_length.Statement.{statement}
-use Rattle.frame.proofs.deck_length.Tie as tie
+use Rattle.emit.proofs.frame.deck_length.Statement.{statement}
+use Rattle.emit.proofs.frame.deck_length.Tie as tie
 
 word-requires : tie.Need-word-requires
 word-requires c κs = search needs

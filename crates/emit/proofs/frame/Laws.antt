@@ -17,8 +17,8 @@ use Rattle.definition.specs.declared.NullStyle.the-variants.{Null}
 use Rattle.told.specs.Outcome.{lent}
 use Rattle.answers.specs.declared.Answer.{Answer}
 use Rattle.answers.specs.Answer.{outcomeOf}
-use Rattle.frame.specs.Front.{Adds, Shows, adds-nothing, adds-then, blank}
-use Rattle.frame.specs.Cut.{deckLength, all-fits, stated-program, cut-program}
+use Rattle.emit.specs.Front.{Adds, Shows, adds-nothing, adds-then, blank}
+use Rattle.emit.specs.Cut.{deckLength, all-fits, stated-program, cut-program}
 
 -- ---- digits
 

@@ -1,8 +1,8 @@
 -- `put` adds one byte.
-use Rattle.frame.specs.Front.{adds-byte}
+use Rattle.emit.specs.Front.{adds-byte}
 use borrow.Author.Needs.{needs}
-use Rattle.frame.proofs.put.Statement.{statement}
-use Rattle.frame.proofs.put.Tie as tie
+use Rattle.emit.proofs.frame.put.Statement.{statement}
+use Rattle.emit.proofs.frame.put.Tie as tie
 
 slice-write-out : tie.Need-slice-write-out
 slice-write-out c = search needs
