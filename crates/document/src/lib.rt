@@ -79,12 +79,10 @@ fn put_separation(w: Writer, out: &mut [u8], lead: Lead) -> Writer
     requires { ⌜ length (now out) < 2 ^ 62 ⌝ }
     ensures { λ r. ⌜ Draws (separationIn lead) (pen w (now (out .entry))) (pen r (now (out .exit))) ⌝ }
 {
-    let directives = lead.directives;
-    if directives.count != 0 {
+    if lead.directives.count != 0 {
         return put_dots(w, out);
     }
-    let lines = lead.lines;
-    if parts::is_marked(lines.marks, 32) {
+    if parts::is_marked(lead.lines.marks, 32) {
         return w;
     }
     put_dashes(w, out)
@@ -95,9 +93,8 @@ fn put_opening(w: Writer, deck: &[u8], pool: &[u8], out: &mut [u8], lead: Lead) 
     requires { ⌜ (length (now out) < 2 ^ 62) × Short lead ⌝ }
     ensures { λ r. ⌜ Draws (opened (now (deck .entry)) (now (pool .entry)) lead) (pen w (now (out .entry))) (pen r (now (out .exit))) ⌝ }
 {
-    let lines = lead.lines;
     let w1 = parts::put_repeated(w, deck, pool, out, lead, Entries::Directives, 0);
-    let w2 = put_start(w1, out, lines.marks);
+    let w2 = put_start(w1, out, lead.lines.marks);
     parts::put_repeated(w2, deck, pool, out, lead, Entries::Heads, 0)
 }
 
@@ -113,10 +110,9 @@ fn put_block(
     requires { ⌜ (Calm settings (now deck) (now pool) (pen w (now out)) (x .place) 0) × Good (now deck) x × (countIn (x .body) < 65536) ⌝ }
     ensures { λ r. ⌜ Emits settings (blockRoot settings (now (deck .entry)) (now (pool .entry)) x) (pen w (now (out .entry))) (pen (r .w) (now (out .exit))) (x .place) (endIn (now (deck .entry)) (now (pool .entry)) x) (r .next) (length (now (deck .entry))) ⌝ }
 {
-    let lead = x.lead;
     let body = x.body;
-    let i = choices::root_column(settings, lead.lines, lead.tag, body);
-    let w1 = parts::put_props_line(w, pool, out, lead);
+    let i = choices::root_column(settings, x.lead.lines, x.lead.tag, body);
+    let w1 = parts::put_props_line(w, pool, out, x.lead);
     block::put_members(w1, deck, pool, out, settings, x, i, true)
 }
 
@@ -132,13 +128,11 @@ fn put_inlined(
     requires { ⌜ (Calm settings (now deck) (now pool) (pen w (now out)) (x .place) 0) × Good (now deck) x × (countIn (x .body) < 65536) ⌝ }
     ensures { λ r. ⌜ Emits settings (lineRoot settings (now (deck .entry)) (now (pool .entry)) x) (pen w (now (out .entry))) (pen (r .w) (now (out .exit))) (x .place) (endIn (now (deck .entry)) (now (pool .entry)) x) (r .next) (length (now (deck .entry))) ⌝ }
 {
-    let lead = x.lead;
-    let w1 = parts::put_props(w, pool, out, lead);
+    let w1 = parts::put_props(w, pool, out, x.lead);
     let i = choices::step_of(settings);
     let e = flow::content(w1, deck, pool, out, settings, x, i);
-    let v = e.w;
     let next = e.next;
-    let v1 = parts::put_close(v, pool, out, x.place, lead);
+    let v1 = parts::put_close(e.w, pool, out, x.place, x.lead);
     Emitted { w: v1, next }
 }
 
@@ -154,20 +148,19 @@ fn put_body(
     requires { ⌜ (Calm settings (now deck) (now pool) (pen w (now out)) (x .place) 0) × Good (now deck) x × (countIn (x .body) < 65536) ⌝ }
     ensures { λ r. ⌜ Emits settings (body settings (nodeIn (now (deck .entry)) (now (pool .entry)) x)) (pen w (now (out .entry))) (pen (r .w) (now (out .exit))) (x .place) (endIn (now (deck .entry)) (now (pool .entry)) x) (r .next) (length (now (deck .entry))) ⌝ }
 {
-    let lead = x.lead;
     let body = x.body;
     if choices::is_block(body) {
         return put_block(w, deck, pool, out, settings, x);
     }
     if choices::bare_root(
         settings,
-        lead.lines,
-        lead.remark,
-        lead.tag,
-        lead.anchor,
+        x.lead.lines,
+        x.lead.remark,
+        x.lead.tag,
+        x.lead.anchor,
         body,
     ) {
-        let v = parts::put_props_line(w, pool, out, lead);
+        let v = parts::put_props_line(w, pool, out, x.lead);
         let next = x.next;
         return Emitted { w: v, next };
     }
@@ -198,9 +191,8 @@ fn put_root(
     requires { ⌜ (Calm settings (now deck) (now pool) (pen w (now out)) (c .at) 0) × (x ≡ spotAt (now deck) c) ⌝ }
     ensures { λ r. ⌜ Emits settings (rootOf settings (now (deck .entry)) (now (pool .entry)) passed x) (pen w (now (out .entry))) (pen (r .w) (now (out .exit))) (c .at) (nextAt (now (deck .entry)) (now (pool .entry)) c) (r .next) (length (now (deck .entry))) ⌝ }
 {
-    let lead = x.lead;
-    if is_directed(lead.origin, passed) {
-        let v = parts::put_include_line(w, pool, out, x.place, lead);
+    if is_directed(x.lead.origin, passed) {
+        let v = parts::put_include_line(w, pool, out, x.place, x.lead);
         let next = node::subtree_end(deck, c);
         return Emitted { w: v, next };
     }
@@ -221,12 +213,10 @@ fn put_document(
     requires { ⌜ (Calm settings (now deck) (now pool) (pen w (now out)) (c .at) 0) × (x ≡ spotAt (now deck) c) ⌝ }
     ensures { λ r. ⌜ Emits settings (document settings passed (nodeAt (now (deck .entry)) (now (pool .entry)) c)) (pen w (now (out .entry))) (pen (r .w) (now (out .exit))) (c .at) (nextAt (now (deck .entry)) (now (pool .entry)) c) (r .next) (length (now (deck .entry))) ⌝ }
 {
-    let lead = x.lead;
-    let w1 = put_opening(w, deck, pool, out, lead);
+    let w1 = put_opening(w, deck, pool, out, x.lead);
     let e = put_root(w1, deck, pool, out, settings, c, x, passed);
-    let v = e.w;
     let next = e.next;
-    let v1 = parts::put_repeated(v, deck, pool, out, lead, Entries::Foots, 0);
+    let v1 = parts::put_repeated(e.w, deck, pool, out, x.lead, Entries::Foots, 0);
     Emitted { w: v1, next }
 }
 
@@ -244,9 +234,7 @@ fn put_first(
     ensures { λ r. ⌜ Emits settings (firstOf settings passed (nodeAt (now (deck .entry)) (now (pool .entry)) c)) (pen w (now (out .entry))) (pen (r .w) (now (out .exit))) (c .at) (nextAt (now (deck .entry)) (now (pool .entry)) c) (r .next) (length (now (deck .entry))) ⌝ }
 {
     let x = spot::spot_at(deck, c);
-    let lead = x.lead;
-    let lines = lead.lines;
-    let w1 = put_bom(w, out, lines.marks);
+    let w1 = put_bom(w, out, x.lead.lines.marks);
     put_document(w1, deck, pool, out, settings, c, x, passed)
 }
 
@@ -264,9 +252,8 @@ fn put_one(
     ensures { λ r. ⌜ Emits settings (oneDocument settings passed (nodeAt (now (deck .entry)) (now (pool .entry)) c)) (pen w (now (out .entry))) (pen (r .w) (now (out .exit))) (c .at) (nextAt (now (deck .entry)) (now (pool .entry)) c) (r .next) (length (now (deck .entry))) ⌝ }
 {
     let e = put_first(w, deck, pool, out, settings, c, passed);
-    let v = e.w;
     let next = e.next;
-    let v1 = put_stop(v, out, settings);
+    let v1 = put_stop(e.w, out, settings);
     Emitted { w: v1, next }
 }
 
@@ -283,8 +270,7 @@ fn put_later(
     ensures { λ r. ⌜ Emits settings (laterOf settings (nodeAt (now (deck .entry)) (now (pool .entry)) c)) (pen w (now (out .entry))) (pen (r .w) (now (out .exit))) (c .at) (nextAt (now (deck .entry)) (now (pool .entry)) c) (r .next) (length (now (deck .entry))) ⌝ }
 {
     let x = spot::spot_at(deck, c);
-    let lead = x.lead;
-    let w1 = put_separation(w, out, lead);
+    let w1 = put_separation(w, out, x.lead);
     put_document(w1, deck, pool, out, settings, c, x, false)
 }
 
@@ -327,9 +313,8 @@ fn put_all(w: Writer, deck: &[u8], pool: &[u8], out: &mut [u8], settings: Settin
     }
     let c = Cursor { at: 0 };
     let e = put_first(w, deck, pool, out, settings, c, false);
-    let v = e.w;
     let next = e.next;
-    put_rest(v, deck, pool, out, settings, next, n - 1)
+    put_rest(e.w, deck, pool, out, settings, next, n - 1)
 }
 
 // A writer that has written nothing. Columns are kept where lines are folded.
@@ -363,8 +348,7 @@ pub fn write_one(
     ensures { λ r. ⌜ pen r (now (out .exit)) ≡ ended (ink settings (oneDocument settings passed (nodeAt (now (deck .entry)) (now (pool .entry)) c)) (pen w (now (out .entry)))) ⌝ }
 {
     let e = put_one(w, deck, pool, out, settings, c, passed);
-    let v = e.w;
-    v.finish(out)
+    e.w.finish(out)
 }
 
 // All documents, to the end of their file.

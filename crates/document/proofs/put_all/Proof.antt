@@ -24,7 +24,7 @@ sub-put-rest c = search needs
 
 -- src/lib.rt:344:5
 put-rest-requires : tie.Need-put-rest-requires
-put-rest-requires c κs = calm-emits (c .before .before .before .before .before .before .before .before .before .before .before .pre) (c .before .before .before .before .before .put-first .ensures)
+put-rest-requires c κs = calm-emits (c .before .before .before .before .before .before .before .before .before .before .pre) (c .before .before .before .before .put-first .ensures)
 
 -- src/lib.rt:332:1
 same-length : tie.Need-same-length
@@ -32,7 +32,7 @@ same-length c = search needs
 
 -- src/lib.rt:332:1
 returns-2 : tie.Need-returns-2
-returns-2 c = all-whole _ _ _ _ _ refl (let h = c .before .before .before .before .before .before .before .before .before .before .if1 .left in omega (arith, h)) (c .before .before .before .before .before .before .before .before .put-first .ensures) (c .before .before .put-rest .ensures)
+returns-2 c = all-whole _ _ _ _ _ refl (let h = c .before .before .before .before .before .before .before .before .before .if1 .left in omega (arith, h)) (c .before .before .before .before .before .before .before .put-first .ensures) (c .before .before .put-rest .ensures)
 
 pub put-all-spec : {M : Type 1} → statement M
 put-all-spec =

@@ -21,7 +21,7 @@ put-props-line-requires c κs = search needs
 
 -- src/lib.rt:138:5
 put-members-requires : tie.Need-put-members-requires
-put-members-requires c κs = let p = (c .before .before .before .before .before .before .before .before .before .before .pre) in let b = calm-drawn (p .0) (c .before .before .before .put-props-line .ensures) in (root-calm b _ _ (p .1 .ahead) (p .1 .within) (c .before .before .before .before .before .root-column .ensures .1 (p .0 .ready .step)), p .1, p .2)
+put-members-requires c κs = let p = (c .before .before .before .before .before .before .before .before .before .pre) in let b = calm-drawn (p .0) (c .before .before .before .put-props-line .ensures) in (root-calm b _ _ (p .1 .ahead) (p .1 .within) (c .before .before .before .before .before .root-column .ensures .1 (p .0 .ready .step)), p .1, p .2)
 
 -- src/lib.rt:123:1
 same-length : tie.Need-same-length

@@ -41,7 +41,7 @@ same-length-2 c = search needs
 
 -- src/lib.rt:183:9
 returns-2 : tie.Need-returns-2
-returns-2 c = body-bare _ _ _ _ ((c .before .before .before .before .before .before .before .before .before .before .before .before .before .pre) .1) (sym (c .before .before .before .before .before .before .before .before .is-block .ensures) ∙ c .before .before .before .before .before .before .before .if1 .left) (sym (c .before .before .before .before .before .before .bare-root .ensures) ∙ c .before .before .before .before .before .if2 .taken) (c .before .before .before .put-props-line .ensures)
+returns-2 c = body-bare _ _ _ _ ((c .before .before .before .before .before .before .before .before .before .before .before .before .pre) .1) (sym (c .before .before .before .before .before .before .before .before .is-block .ensures) ∙ c .before .before .before .before .before .before .before .if1 .left) (sym (c .before .before .before .before .before .before .bare-root .ensures) ∙ c .before .before .before .before .before .if2 .taken) (c .before .before .before .put-props-line .ensures)
 
 -- src/lib.rt:185:5
 put-inlined-requires : tie.Need-put-inlined-requires

@@ -19,7 +19,7 @@ put-bom-requires c κs = search needs
 
 -- src/lib.rt:261:5
 put-document-requires : tie.Need-put-document-requires
-put-document-requires c κs = (calm-drawn (c .before .before .before .before .before .before .before .before .before .before .before .pre) (c .before .before .before .put-bom .ensures), c .before .before .before .before .before .before .before .spot-at .ensures)
+put-document-requires c κs = (calm-drawn (c .before .before .before .before .before .before .before .before .before .pre) (c .before .before .before .put-bom .ensures), c .before .before .before .before .before .spot-at .ensures)
 
 -- src/lib.rt:245:1
 same-length : tie.Need-same-length
@@ -27,7 +27,7 @@ same-length c = search needs
 
 -- src/lib.rt:245:1
 returns : tie.Need-returns
-returns c = first-whole _ _ _ _ _ _ _ ((c .before .before .before .before .before .before .before .before .before .before .before .before .before .before .pre) .ready .here) (c .before .before .before .before .before .before .before .before .before .before .spot-at .ensures) (c .before .before .before .before .before .before .put-bom .ensures) (c .before .before .put-document .ensures)
+returns c = first-whole _ _ _ _ _ _ _ ((c .before .before .before .before .before .before .before .before .before .before .before .before .pre) .ready .here) (c .before .before .before .before .before .before .before .before .spot-at .ensures) (c .before .before .before .before .before .before .put-bom .ensures) (c .before .before .put-document .ensures)
 
 pub put-first-spec : {M : Type 1} → statement M
 put-first-spec =

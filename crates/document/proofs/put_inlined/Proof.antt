@@ -21,11 +21,11 @@ step-of-requires c κs = search needs
 
 -- src/lib.rt:156:9
 content-requires : tie.Need-content-requires
-content-requires c κs = let p = (c .before .before .before .before .before .before .before .before .before .before .pre) in let b = calm-drawn (p .0) (c .before .before .before .before .put-props .ensures) in let n = c .before .step-of .ensures .1 (p .0 .ready .step) in (in-line b _ _ (omega arith) (b .ready .here) (omega (arith, n)), p .1, p .2)
+content-requires c κs = let p = (c .before .before .before .before .before .before .before .before .before .pre) in let b = calm-drawn (p .0) (c .before .before .before .before .put-props .ensures) in let n = c .before .step-of .ensures .1 (p .0 .ready .step) in (in-line b _ _ (omega arith) (b .ready .here) (omega (arith, n)), p .1, p .2)
 
 -- src/lib.rt:159:9
 put-close-requires : tie.Need-put-close-requires
-put-close-requires c κs = let p = (c .before .before .before .before .before .before .before .before .before .before .before .before .before .before .before .before .pre) in let b = calm-after (calm-drawn (p .0) (c .before .before .before .before .before .before .before .before .before .before .put-props .ensures)) _ _ _ (c .before .before .before .before .before .content .ensures .drawn) in (let o = b .ready .out-small in omega (arith, o), (let h = b .ready .here in let d = b .ready .deck-small in omega (arith, h, d)))
+put-close-requires c κs = let p = (c .before .before .before .before .before .before .before .before .before .before .before .before .before .before .pre) in let b = calm-after (calm-drawn (p .0) (c .before .before .before .before .before .before .before .before .before .put-props .ensures)) _ _ _ (c .before .before .before .before .content .ensures .drawn) in (let o = b .ready .out-small in omega (arith, o), (let h = b .ready .here in let d = b .ready .deck-small in omega (arith, h, d)))
 
 -- src/lib.rt:142:1
 same-length : tie.Need-same-length
@@ -33,7 +33,7 @@ same-length c = search needs
 
 -- src/lib.rt:142:1
 returns : tie.Need-returns
-returns c = line-whole _ _ _ _ _ _ ((c .before .before .before .before .before .before .before .before .before .before .before .before .before .before .before .before .before .before .before .pre) .0 .flow) ((c .before .before .before .before .before .before .before .before .before .before .before .before .before .before .before .before .before .before .before .pre) .0 .key) (c .before .before .before .before .before .before .before .before .before .before .step-of .ensures .0) (c .before .before .before .before .before .before .before .before .before .before .before .before .before .put-props .ensures) (c .before .before .before .before .before .before .before .before .content .ensures) (c .before .before .put-close .ensures)
+returns c = line-whole _ _ _ _ _ _ ((c .before .before .before .before .before .before .before .before .before .before .before .before .before .before .before .before .before .pre) .0 .flow) ((c .before .before .before .before .before .before .before .before .before .before .before .before .before .before .before .before .before .pre) .0 .key) (c .before .before .before .before .before .before .before .before .before .step-of .ensures .0) (c .before .before .before .before .before .before .before .before .before .before .before .before .put-props .ensures) (c .before .before .before .before .before .before .before .content .ensures) (c .before .before .put-close .ensures)
 
 pub put-inlined-spec : {M : Type 1} → statement M
 put-inlined-spec =

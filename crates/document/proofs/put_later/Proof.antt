@@ -19,7 +19,7 @@ put-separation-requires c κs = search needs
 
 -- src/lib.rt:299:5
 put-document-requires : tie.Need-put-document-requires
-put-document-requires c κs = (calm-drawn (c .before .before .before .before .before .before .before .before .before .before .pre) (c .before .before .before .put-separation .ensures), c .before .before .before .before .before .before .spot-at .ensures)
+put-document-requires c κs = (calm-drawn (c .before .before .before .before .before .before .before .before .before .pre) (c .before .before .before .put-separation .ensures), c .before .before .before .before .before .spot-at .ensures)
 
 -- src/lib.rt:285:1
 same-length : tie.Need-same-length
@@ -27,7 +27,7 @@ same-length c = search needs
 
 -- src/lib.rt:285:1
 returns : tie.Need-returns
-returns c = later-whole _ _ _ _ _ _ ((c .before .before .before .before .before .before .before .before .before .before .before .before .before .pre) .ready .here) (c .before .before .before .before .before .before .before .before .before .spot-at .ensures) (c .before .before .before .before .before .before .put-separation .ensures) (c .before .before .put-document .ensures)
+returns c = later-whole _ _ _ _ _ _ ((c .before .before .before .before .before .before .before .before .before .before .before .before .pre) .ready .here) (c .before .before .before .before .before .before .before .before .spot-at .ensures) (c .before .before .before .before .before .before .put-separation .ensures) (c .before .before .put-document .ensures)
 
 pub put-later-spec : {M : Type 1} → statement M
 put-later-spec =

@@ -21,7 +21,7 @@ same-length c = search needs
 
 -- src/lib.rt:265:1
 returns : tie.Need-returns
-returns c = one-whole _ _ _ _ _ (c .before .before .before .before .before .before .before .before .put-first .ensures) (c .before .before .put-stop .ensures)
+returns c = one-whole _ _ _ _ _ (c .before .before .before .before .before .before .before .put-first .ensures) (c .before .before .put-stop .ensures)
 
 pub put-one-spec : {M : Type 1} → statement M
 put-one-spec = tie.close (tie.spec put-first-requires put-stop-requires same-length returns)

@@ -34,7 +34,7 @@ is-marked-requires c κs = search needs
 -- src/lib.rt:106:9
 returns-2 : tie.Need-returns-2
 unfolding separationIn on
-returns-2 c = draws-no _ _ _ (ap not (eq-eqb _ _ (c .before .before .before .if1 .left))) (draws-yes _ _ _ (sym (c .before .is-marked .ensures) ∙ c .if2 .taken) stays)
+returns-2 c = draws-no _ _ _ (ap not (eq-eqb _ _ (c .before .before .if1 .left))) (draws-yes _ _ _ (sym (c .before .is-marked .ensures) ∙ c .if2 .taken) stays)
 
 -- src/lib.rt:108:5
 put-dashes-requires : tie.Need-put-dashes-requires
@@ -47,7 +47,7 @@ same-length-2 c = search needs
 -- src/lib.rt:96:1
 returns-3 : tie.Need-returns-3
 unfolding separationIn on
-returns-3 c = draws-no _ _ _ (ap not (eq-eqb _ _ (c .before .before .before .before .before .before .before .if1 .left))) (draws-no _ _ _ (sym (c .before .before .before .before .before .is-marked .ensures) ∙ c .before .before .before .before .if2 .left) (c .before .before .put-dashes .ensures))
+returns-3 c = draws-no _ _ _ (ap not (eq-eqb _ _ (c .before .before .before .before .before .before .if1 .left))) (draws-no _ _ _ (sym (c .before .before .before .before .before .is-marked .ensures) ∙ c .before .before .before .before .if2 .left) (c .before .before .put-dashes .ensures))
 
 pub put-separation-spec : {M : Type 1} → statement M
 put-separation-spec =
