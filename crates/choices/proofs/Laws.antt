@@ -12,10 +12,12 @@ use Rattle.definition.specs.Base.{Bytes, isNil}
 use Rattle.definition.specs.Walk.{hasComments}
 use Rattle.definition.specs.declared.Cursor.{Cursor}
 use Rattle.deck.specs.Kids.{twice}
+use Rattle.node.specs.Comments.{commented}
 use Rattle.node.specs.Ends.{Ends}
+use Rattle.node.specs.Head.{headAt}
 use Rattle.node.specs.Total.{treeAt}
-use Rattle.spot.specs.Spot.{spotAt, tree-value}
-use Rattle.choices.specs.Choices.{commentsIn, comments-is}
+use Rattle.spot.specs.Spot.{spotOf, spotAt, tree-value}
+use Rattle.choices.specs.Choices.{comments-is}
 use Rattle.choices.specs.Siblings.{someFrom, Some, SomeItems, SomePairs, some-items, some-pairs}
 
 pub nil-length : (t : Bytes) → eqb (length t) 0 ≡ isNil t
@@ -30,11 +32,12 @@ pub record Same (deck : Bytes) (left : ℕ) (here : Cursor) (n : ℕ) (c : Curso
   pub same : (pool : Bytes) → someFrom deck pool left here ≡ someFrom deck pool n c
 
 module _ (deck : Bytes) (left : ℕ) (here : Cursor) (n : ℕ) (c : Cursor) where
-  comments-there : (pool : Bytes) {r : Bool} → here .at ≤ length deck → r ≡ commentsIn (spotAt deck here .lead) → hasComments (treeAt deck pool here .value) ≡ r
+  comments-there : (pool : Bytes) {r : Bool} → here .at ≤ length deck → r ≡ commented (headAt deck here .lead) → hasComments (treeAt deck pool here .value) ≡ r
+  unfolding spotAt spotOf
   comments-there pool k e = rw (tree-value deck pool here k, e) (comments-is deck pool (spotAt deck here))
 
   from-here :
-      (pool : Bytes) {r : Bool} → 0 < left → here .at ≤ length deck → r ≡ commentsIn (spotAt deck here .lead)
+      (pool : Bytes) {r : Bool} → 0 < left → here .at ≤ length deck → r ≡ commented (headAt deck here .lead)
       → someFrom deck pool left here ≡ (r || someFrom deck pool (left - 1) (treeAt deck pool here .next))
   unfolding someFrom
   from-here pool {r} l k e = go left l
@@ -43,11 +46,11 @@ module _ (deck : Bytes) (left : ℕ) (here : Cursor) (n : ℕ) (c : Cursor) wher
       go zero p = absurd (omega arith)
       go (suc m) p = let z : suc m - 1 ≡ m = omega arith in rw (z, comments-there pool k e)
 
-  pub found : {r : Bool} → 0 < left → here .at ≤ length deck → r ≡ commentsIn (spotAt deck here .lead) → r ≡ true → Same deck left here n c → Some deck c n true
+  pub found : {r : Bool} → 0 < left → here .at ≤ length deck → r ≡ commented (headAt deck here .lead) → r ≡ true → Same deck left here n c → Some deck c n true
   found l k e f h = record { told = λ pool. sym (rw f at (from-here pool l k e)) ∙ h .same pool }
 
   pub passed :
-      {r : Bool} {e : Cursor} → 0 < left → here .at ≤ length deck → r ≡ commentsIn (spotAt deck here .lead) → r ≡ false → Ends deck here e
+      {r : Bool} {e : Cursor} → 0 < left → here .at ≤ length deck → r ≡ commented (headAt deck here .lead) → r ≡ false → Ends deck here e
       → Same deck left here n c → Same deck (left - 1) e n c
   passed l k e f d h = record { same = λ pool. rw (d .tree pool) (sym (rw f at (from-here pool l k e)) ∙ h .same pool) }
 

@@ -8,7 +8,7 @@ use Rattle.choices.proofs.some_comments.Statement.{statement}
 use Rattle.choices.proofs.some_comments.Tie as tie
 use Rattle.choices.proofs.some_comments.Reads as reads
 use Rattle.choices.proofs.some_comments.Lts as lts
-use Rattle.choices.proofs.has_comments_at.Reads as has-comments-at-reads
+use Rattle.node.proofs.has_comments.Reads as has-comments-reads
 use Rattle.node.proofs.subtree_end.Reads as subtree-end-reads
 
 abbrev Inv-loop : tie.InvT-loop
@@ -19,15 +19,15 @@ abbrev μ-loop : tie.MeasureT-loop
 
 -- src/lib.rt:409:5
 loop-holds : tie.Need-loop-holds Inv-loop μ-loop
-loop-holds c = (record { same = λ pool. refl }, c .before .pre .0)
+loop-holds c = (record { same = λ pool. refl }, c .before .pre)
 
 -- src/lib.rt:410:12
-has-comments-at-requires : tie.Need-has-comments-at-requires Inv-loop μ-loop
-has-comments-at-requires c κs = (c .before .loop .inv .1, c .before .before .before .pre .1)
+has-comments-requires : tie.Need-has-comments-requires Inv-loop μ-loop
+has-comments-requires c κs = c .before .loop .inv .1
 
 -- src/lib.rt:411:13
 returns : tie.Need-returns Inv-loop μ-loop
-returns c = found _ _ _ _ _ (c .before .before .loop-test .taken) (c .before .before .before .loop .inv .1) (c .before .has-comments-at .ensures) (c .if1 .taken) (c .before .before .before .loop .inv .0)
+returns c = found _ _ _ _ _ (c .before .before .loop-test .taken) (c .before .before .before .loop .inv .1) (c .before .has-comments .ensures) (c .if1 .taken) (c .before .before .before .loop .inv .0)
 
 -- src/lib.rt:413:9
 subtree-end-requires : tie.Need-subtree-end-requires Inv-loop μ-loop
@@ -43,7 +43,7 @@ loop-less c = search needs
 
 -- src/lib.rt:409:5
 loop-again : tie.Need-loop-again Inv-loop μ-loop
-loop-again c = (passed _ _ _ _ _ (c .before .before .before .loop-test .taken) (c .before .before .before .before .loop .inv .1) (c .before .before .has-comments-at .ensures) (c .before .if1 .left) (c .subtree-end .ensures) (c .before .before .before .before .loop .inv .0), c .subtree-end .ensures .within)
+loop-again c = (passed _ _ _ _ _ (c .before .before .before .loop-test .taken) (c .before .before .before .before .loop .inv .1) (c .before .before .has-comments .ensures) (c .before .if1 .left) (c .subtree-end .ensures) (c .before .before .before .before .loop .inv .0), c .subtree-end .ensures .within)
 
 -- src/lib.rt:403:1
 returns-2 : tie.Need-returns-2 Inv-loop μ-loop
@@ -56,7 +56,7 @@ some-comments-spec =
     Inv-loop
     μ-loop
     loop-holds
-    has-comments-at-requires
+    has-comments-requires
     returns
     subtree-end-requires
     sub-left
