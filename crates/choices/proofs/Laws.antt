@@ -25,6 +25,10 @@ unfolding isNil
 nil-length [] = refl
 nil-length (b ∷ t) = ne-eqb (length (b ∷ t)) 0 (λ e. absurd (omega (arith, e)))
 
+or-none : (r : Bool) → r ≡ (r || false)
+or-none true = refl
+or-none false = refl
+
 -- ---- trees one after another
 
 -- with any pool, what is left says what the whole says
@@ -54,9 +58,13 @@ module _ (deck : Bytes) (left : ℕ) (here : Cursor) (n : ℕ) (c : Cursor) wher
       → Same deck left here n c → Same deck (left - 1) e n c
   passed l k e f d h = record { same = λ pool. rw (d .tree pool) (sym (rw f at (from-here pool l k e)) ∙ h .same pool) }
 
-  pub done : left ≡ 0 → Same deck left here n c → Some deck c n false
+  pub last : (r : Bool) → left ≡ 1 → here .at ≤ length deck → r ≡ commented (headAt deck here .lead) → Same deck left here n c → Some deck c n r
   unfolding someFrom
-  done z h = record { told = λ pool. rw z at (h .same pool) }
+  last r o k e h = let l : 0 < left = omega arith in let z : left - 1 ≡ 0 = omega arith in record { told = λ pool. or-none r ∙ sym (rw z at (from-here pool l k e)) ∙ h .same pool }
+
+pub none : (deck : Bytes) (c : Cursor) (n : ℕ) → n ≡ 0 → Some deck c n false
+unfolding someFrom
+none deck c n z = record { told = λ pool. rw z }
 
 twice-is : (n : ℕ) → 2 * n ≡ twice n
 unfolding twice

@@ -380,21 +380,24 @@ pub fn bare_root(
     false
 }
 
-// Some of n nodes that stand one after another have comments.
+// Some of n nodes that stand one after another have comments. Where the last one ends is not looked for.
 fn some_comments(deck: &[u8], c: Cursor, n: usize) -> bool
     requires { ⌜ c .at ≤ length (now deck) ⌝ }
     ensures { λ r. ⌜ Some (now (deck .entry)) c n r ⌝ }
 {
+    if n == 0 {
+        return false;
+    }
     let mut here = c;
     let mut left = n;
-    while left > 0 {
+    while left > 1 {
         if node::has_comments(deck, here) {
             return true;
         }
         here = node::subtree_end(deck, here);
         left -= 1;
     }
-    false
+    node::has_comments(deck, here)
 }
 
 // Some of n items.
