@@ -133,7 +133,7 @@ fn put_inlined(
     ensures { λ r. ⌜ Emits settings (lineRoot settings (now (deck .entry)) (now (pool .entry)) x) (pen w (now (out .entry))) (pen (r .w) (now (out .exit))) (x .place) (endIn (now (deck .entry)) (now (pool .entry)) x) (r .next) (length (now (deck .entry))) ⌝ }
 {
     let lead = x.lead;
-    let w1 = parts::put_props(w, pool, out, lead);
+    let w1 = joints::put_props(w, pool, out, lead);
     let i = choices::step_of(settings);
     let e = flow::content(w1, deck, pool, out, settings, x, i);
     let v = e.w;

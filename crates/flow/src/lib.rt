@@ -313,7 +313,7 @@ pub fn key(
 {
     let mark = w.key;
     let lead = x.lead;
-    let w1 = parts::put_props(w, pool, out, lead);
+    let w1 = joints::put_props(w, pool, out, lead);
     let w2 = joints::with_key(w1, 1);
     let e = content(w2, deck, pool, out, settings, x, i);
     let u = e.w;
@@ -339,6 +339,6 @@ pub fn item(
 {
     let x = spot::spot_at(deck, c);
     let lead = x.lead;
-    let w1 = parts::put_props(w, pool, out, lead);
+    let w1 = joints::put_props(w, pool, out, lead);
     content(w1, deck, pool, out, settings, x, i)
 }

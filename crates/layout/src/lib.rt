@@ -56,7 +56,7 @@ pub fn put_inlined(
     ensures { λ r. ⌜ Emits settings (inlined (x .place) (keptIn (now (deck .entry)) (now (pool .entry)) x) (broughtIn (now (deck .entry)) (now (pool .entry)) x) (content settings false false i (nodeIn (now (deck .entry)) (now (pool .entry)) x))) (pen w (now (out .entry))) (pen (r .w) (now (out .exit))) (x .place) (endIn (now (deck .entry)) (now (pool .entry)) x) (r .next) (length (now (deck .entry))) ⌝ }
 {
     let lead = x.lead;
-    let w1 = parts::put_props(w, pool, out, lead);
+    let w1 = joints::put_props(w, pool, out, lead);
     let e = flow::content(w1, deck, pool, out, settings, x, i);
     let v = e.w;
     let next = e.next;
@@ -130,7 +130,7 @@ pub fn put_key_line(
 {
     let lead = x.lead;
     let w1 = w.byte(out, b' ');
-    let w2 = parts::put_props(w1, pool, out, lead);
+    let w2 = joints::put_props(w1, pool, out, lead);
     let w3 = joints::with_key(w2, 1);
     let e = flow::content(w3, deck, pool, out, settings, x, i);
     let u = e.w;
