@@ -65,7 +65,7 @@ module _ (s : Settings) (deck pool : Bytes) where
   at-node : (c r : Cursor) (x : Spot) (f : Node → Script) {P Q : Pen} {n : ℕ} {z : Cursor} → c .at ≤ length deck → x ≡ spotAt deck c → Emits s (f (nodeIn deck pool x)) P Q n z r (length deck) → Emits s (f (nodeAt deck pool c)) P Q n z r (length deck)
   at-node c r x f k e m = emits-same (f (nodeIn deck pool x)) (f (nodeAt deck pool c)) (ap (λ (y : Spot). f (nodeIn deck pool y)) e ∙ ap f (sym (tree-value deck pool c k))) m
 
-  at-cursor :
+  pub at-cursor :
       (c r : Cursor) (x : Spot) (f : Node → Script) {P Q : Pen} → c .at ≤ length deck → length deck ≤ 65536 → x ≡ spotAt deck c
       → Emits s (f (nodeIn deck pool x)) P Q (x .place) (endIn deck pool x) r (length deck) → Emits s (f (nodeAt deck pool c)) P Q (c .at) (nextAt deck pool c) r (length deck)
   at-cursor c r x f k b e m =
@@ -162,13 +162,23 @@ module _ (s : Settings) (deck pool : Bytes) where
 
   -- ---- one row
 
+  -- what stands before the node that was read stands before the tree at its cursor
+  before-there :
+      (i : ℕ) (pairs lead : Bool) (c : Cursor) (x : Spot) {P Q : Pen} → c .at ≤ length deck → x ≡ spotAt deck c
+      → Draws (if lead then before pairs (keptIn deck pool x) i else nothing) P Q → Draws (if lead then before pairs (kept (nodeAt deck pool c)) i else nothing) P Q
+  unfolding kept nodeIn
+  before-there i pairs lead c x k e d = rw (tree-value deck pool c k, ← e) d
+
   pub pair-row :
-      (i : ℕ) (pairs lead first : Bool) (c d r : Cursor) {P₀ P₁ P₂ P₃ : Pen} → pairs ≡ true → Draws (if lead then before pairs (kept (nodeAt deck pool c)) i else nothing) P₀ P₁
-      → Emits s (keyPart s i first (nodeAt deck pool c)) P₁ P₂ (c .at) (nextAt deck pool c) d (length deck)
+      (i : ℕ) (pairs lead first : Bool) (c d r : Cursor) (x : Spot) {P₀ P₁ P₂ P₃ : Pen} → c .at ≤ length deck → length deck ≤ 65536 → x ≡ spotAt deck c → pairs ≡ true
+      → Draws (if lead then before pairs (keptIn deck pool x) i else nothing) P₀ P₁
+      → Emits s (keyPart s i first (nodeIn deck pool x)) P₁ P₂ (x .place) (endIn deck pool x) d (length deck)
       → Emits s (value s i (nodeAt deck pool d)) P₂ P₃ (d .at) (nextAt deck pool d) r (length deck)
       → Emits s (rowOf s deck pool i pairs lead first c) P₀ P₃ (c .at) (entryEnd deck pool pairs c) r (length deck)
   unfolding ink rowOf pairRow entryEnd lastOf
-  pair-row i pairs lead first c d r t b k v =
+  pair-row i pairs lead first c d r x h l e t a m v =
+      let b = before-there i pairs lead c x h e a in
+      let k = at-cursor c d x (keyPart s i first) h l e m in
       let p = k .onward in
       let q = v .onward in
       let v′ = rw (k .next) at v in
@@ -180,34 +190,31 @@ module _ (s : Settings) (deck pool : Bytes) where
       })
 
   pub item-row :
-      (i : ℕ) (pairs lead first : Bool) (c r : Cursor) {P₀ P₁ P₂ : Pen} → pairs ≡ false → Draws (if lead then before pairs (kept (nodeAt deck pool c)) i else nothing) P₀ P₁
+      (i : ℕ) (pairs lead first : Bool) (c r : Cursor) (x : Spot) {P₀ P₁ P₂ : Pen} → c .at ≤ length deck → x ≡ spotAt deck c → pairs ≡ false
+      → Draws (if lead then before pairs (keptIn deck pool x) i else nothing) P₀ P₁
       → Emits s (dash s i (nodeAt deck pool c)) P₁ P₂ (c .at) (nextAt deck pool c) r (length deck)
       → Emits s (rowOf s deck pool i pairs lead first c) P₀ P₂ (c .at) (entryEnd deck pool pairs c) r (length deck)
   unfolding rowOf itemRow entryEnd lastOf
-  item-row i pairs lead first c r t b d = rw t (drawn-first _ _ (rw t at b) d)
+  item-row i pairs lead first c r x h e t a d = let b = before-there i pairs lead c x h e a in rw t (drawn-first _ _ (rw t at b) d)
 
   -- ---- keys
 
   pub key-explicit :
-      (i : ℕ) (first : Bool) (c d r : Cursor) (x : Spot) (b : Bool) {P₀ P₁ P₂ P₃ : Pen} → c .at ≤ length deck → length deck ≤ 65536 → x ≡ spotAt deck c
-      → b ≡ explicitIn first (x .lead) (x .body) → b ≡ true → P₁ ≡ put1 P₀ '?'
+      (i : ℕ) (first : Bool) (d r : Cursor) (x : Spot) (b : Bool) {P₀ P₁ P₂ P₃ : Pen} → b ≡ explicitIn first (x .lead) (x .body) → b ≡ true → P₁ ≡ put1 P₀ '?'
       → Emits s (keyBelow s i (nodeIn deck pool x)) P₁ P₂ (x .place) (endIn deck pool x) d (length deck) → Coloned i P₂ P₃ d r
-      → Emits s (keyPart s i first (nodeAt deck pool c)) P₀ P₃ (c .at) (nextAt deck pool c) r (length deck)
+      → Emits s (keyPart s i first (nodeIn deck pool x)) P₀ P₃ (x .place) (endIn deck pool x) r (length deck)
   unfolding keyPart explicitKey sign
-  key-explicit i first c d r x b k l e f t p m z =
-      at-cursor c r x (keyPart s i first) k l e
-      (rw (z .next) (emits-yes _ _ _ (explicit-is deck pool first x ∙ sym f ∙ t) (drawn-first (sign '?') _ (of-byte mark '?' p) (drawn-last _ _ m (z .drawn)))))
+  key-explicit i first d r x b f t p m z =
+      rw (z .next) (emits-yes _ _ _ (explicit-is deck pool first x ∙ sym f ∙ t) (drawn-first (sign '?') _ (of-byte mark '?' p) (drawn-last _ _ m (z .drawn))))
 
   pub key-inline :
-      (i : ℕ) (first : Bool) (c r : Cursor) (x : Spot) (b : Bool) (P : Pen) {Q : Pen} → c .at ≤ length deck → x ≡ spotAt deck c
-      → b ≡ explicitIn first (x .lead) (x .body) → b ≡ false → P .w .flow ≡ 0
-      → Emits s (keyOf deck pool s (on (P .w .flow)) (on (P .w .key)) i (nodeAt deck pool c)) P Q (c .at) (nextAt deck pool c) r (length deck)
-      → Emits s (keyPart s i first (nodeAt deck pool c)) P Q (c .at) (nextAt deck pool c) r (length deck)
+      (i : ℕ) (first : Bool) (r : Cursor) (x : Spot) (b : Bool) (P : Pen) {Q : Pen} → b ≡ explicitIn first (x .lead) (x .body) → b ≡ false → P .w .flow ≡ 0
+      → Emits s (keyOf deck pool s (on (P .w .flow)) (on (P .w .key)) i (nodeIn deck pool x)) P Q (x .place) (endIn deck pool x) r (length deck)
+      → Emits s (keyPart s i first (nodeIn deck pool x)) P Q (x .place) (endIn deck pool x) r (length deck)
   unfolding keyPart keyOf
-  key-inline i first c r x b P k e f t h m =
+  key-inline i first r x b P f t h m =
       let o : on (P .w .flow) ≡ false = unfold on in ap on h in
-      let q : isExplicit first (nodeAt deck pool c) ≡ false = ap (isExplicit first) (tree-value deck pool c k) ∙ ap (λ (y : Spot). isExplicit first (nodeIn deck pool y)) (sym e) ∙ explicit-is deck pool first x ∙ sym f ∙ t in
-      emits-no _ _ _ q (rw o at m)
+      emits-no _ _ _ (explicit-is deck pool first x ∙ sym f ∙ t) (rw o at m)
 
   pub key-below-block :
       (i j n : ℕ) (r : Cursor) (x : Spot) (b : Bool) {P₀ P₁ P₂ P₃ : Pen} → n ≡ stepOf s → j ≡ i + n → b ≡ blockIn (x .body) → b ≡ true

@@ -14,7 +14,7 @@ ghost use Rattle.definition.specs.Walk.{value, dash, keyBelow, members};
 ghost use Rattle.pen.specs.Pen.{pen};
 ghost use Rattle.parts.specs.Draws.{Draws};
 ghost use Rattle.parts.specs.Runs.{Short};
-ghost use Rattle.spot.specs.Spot.{kindIn, nodeIn, endIn};
+ghost use Rattle.spot.specs.Spot.{kindIn, nodeIn, endIn, spotAt};
 ghost use Rattle.spot.specs.Good.{Good, countIn};
 ghost use Rattle.choices.specs.Choices.{blockIn};
 ghost use Rattle.joints.specs.Entries.{nodeAt, nextAt, entryEnd, runEnd};
@@ -133,20 +133,22 @@ fn put_row(
     pairs: bool,
     c: Cursor,
     i: usize,
-    lead: bool,
+    begin: bool,
     first: bool,
 ) -> Emitted
     requires { ⌜ Calm settings (now deck) (now pool) (pen w (now out)) (c .at) i ⌝ }
-    ensures { λ r. ⌜ Emits settings (rowOf settings (now (deck .entry)) (now (pool .entry)) i pairs lead first c) (pen w (now (out .entry))) (pen (r .w) (now (out .exit))) (c .at) (entryEnd (now (deck .entry)) (now (pool .entry)) pairs c) (r .next) (length (now (deck .entry))) ⌝ }
+    ensures { λ r. ⌜ Emits settings (rowOf settings (now (deck .entry)) (now (pool .entry)) i pairs begin first c) (pen w (now (out .entry))) (pen (r .w) (now (out .exit))) (c .at) (entryEnd (now (deck .entry)) (now (pool .entry)) pairs c) (r .next) (length (now (deck .entry))) ⌝ }
 {
-    let w1 = layout::put_before(w, deck, pool, out, pairs, c, i, lead);
+    let x = spot::spot_at(deck, c);
+    let lead = x.lead;
+    let w1 = layout::put_before(w, deck, pool, out, pairs, lead, i, begin);
     if pairs {
-        let e = put_key(w1, deck, pool, out, settings, c, i, first);
+        let e = put_key(w1, deck, pool, out, settings, x, i, first);
         let v = e.w;
         let next = e.next;
         return put_value(v, deck, pool, out, settings, next, i);
     }
-    put_dash(w1, deck, pool, out, settings, c, i)
+    put_dash(w1, deck, pool, out, settings, x, c, i)
 }
 
 // A key with its colon: after `?`, or inline.
@@ -156,14 +158,13 @@ fn put_key(
     pool: &[u8],
     out: &mut [u8],
     settings: Settings,
-    c: Cursor,
+    x: Spot,
     i: usize,
     first: bool,
 ) -> Emitted
-    requires { ⌜ Calm settings (now deck) (now pool) (pen w (now out)) (c .at) i ⌝ }
-    ensures { λ r. ⌜ Emits settings (keyPart settings i first (nodeAt (now (deck .entry)) (now (pool .entry)) c)) (pen w (now (out .entry))) (pen (r .w) (now (out .exit))) (c .at) (nextAt (now (deck .entry)) (now (pool .entry)) c) (r .next) (length (now (deck .entry))) ⌝ }
+    requires { ⌜ (Calm settings (now deck) (now pool) (pen w (now out)) (x .place) i) × Good (now deck) x × (countIn (x .body) < 65536) ⌝ }
+    ensures { λ r. ⌜ Emits settings (keyPart settings i first (nodeIn (now (deck .entry)) (now (pool .entry)) x)) (pen w (now (out .entry))) (pen (r .w) (now (out .exit))) (x .place) (endIn (now (deck .entry)) (now (pool .entry)) x) (r .next) (length (now (deck .entry))) ⌝ }
 {
-    let x = spot::spot_at(deck, c);
     let lead = x.lead;
     let body = x.body;
     if choices::is_explicit(first, lead, body) {
@@ -171,7 +172,7 @@ fn put_key(
         let e = put_question(w1, deck, pool, out, settings, x, i);
         return with_colon(e, out, i);
     }
-    flow::key(w, deck, pool, out, settings, c, i)
+    flow::key(w, deck, pool, out, settings, x, i)
 }
 
 // The key of `emit_explicit_key_pair`, after the `?` at column i.
@@ -225,20 +226,20 @@ fn put_value(
     layout::put_value(w, deck, pool, out, settings, x, j)
 }
 
-// `emit_sequence_item_body`, its dash at column i.
+// `emit_sequence_item_body` of the node at a cursor, its dash at column i.
 fn put_dash(
     w: Writer,
     deck: &[u8],
     pool: &[u8],
     out: &mut [u8],
     settings: Settings,
+    x: Spot,
     c: Cursor,
     i: usize,
 ) -> Emitted
-    requires { ⌜ Calm settings (now deck) (now pool) (pen w (now out)) (c .at) i ⌝ }
+    requires { ⌜ (Calm settings (now deck) (now pool) (pen w (now out)) (c .at) i) × (x ≡ spotAt (now deck) c) ⌝ }
     ensures { λ r. ⌜ Emits settings (dash settings i (nodeAt (now (deck .entry)) (now (pool .entry)) c)) (pen w (now (out .entry))) (pen (r .w) (now (out .exit))) (c .at) (nextAt (now (deck .entry)) (now (pool .entry)) c) (r .next) (length (now (deck .entry))) ⌝ }
 {
-    let x = spot::spot_at(deck, c);
     let lead = x.lead;
     let body = x.body;
     let w1 = w.byte(out, b'-');

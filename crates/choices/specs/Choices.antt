@@ -21,6 +21,7 @@ use Rattle.node.specs.declared.Held.{Held}
 use Rattle.node.specs.declared.Lead.{Lead}
 use Rattle.node.specs.declared.Origin.{Origin}
 use Rattle.node.specs.declared.Remark.{Remark}
+use Rattle.node.specs.Comments.{commented}
 use Rattle.node.specs.Total.{Got, keptOf, broughtOf, originOf, runFrom, itemsFrom, pairsFrom, treeAt}
 use Rattle.parts.specs.Runs.{hasHeld, held-some, has-props-is}
 use Rattle.spot.specs.declared.Body.{Body}
@@ -113,9 +114,6 @@ module _ (deck pool : Bytes) where
 
 -- ---- comments, includes, keys
 
-unfoldable pub commentsIn : Lead → Bool
-commentsIn l = on (l .heads .count) || on (l .remark .present) || on (l .foots .count)
-
 some-run : {A : Type 0} (e : Cursor → A) (s n : ℕ) (c : Cursor) → not (isNil (runFrom e s n c)) ≡ on n
 unfolding isNil runFrom on
 some-run e s zero c = refl
@@ -135,8 +133,8 @@ unfoldable pub includedIn : Origin → Bool
 includedIn o = on (o .present)
 
 module _ (deck pool : Bytes) where
-  pub comments-is : (x : Spot) → hasComments (nodeIn deck pool x) ≡ commentsIn (x .lead)
-  unfolding hasComments nodeIn keptOf commentsIn
+  pub comments-is : (x : Spot) → hasComments (nodeIn deck pool x) ≡ commented (x .lead)
+  unfolding hasComments nodeIn keptOf commented on
   comments-is x = rw (some-run, some-run, remark-some)
 
   needs-is : (l : Lead) (b : Body) (c : Cursor) → needsExplicit (keptOf deck pool l) (kindOf deck pool b c) ≡ needsIn (l .lines) b

@@ -24,9 +24,8 @@ ghost use Rattle.definition.specs.Settings.{stepOf, isEmptyStyle};
 ghost use Rattle.definition.specs.Deck.{words, marked};
 ghost use Rattle.definition.specs.Walk.{isBlockForm, isBlockStyle, isPlain};
 ghost use Rattle.parts.specs.Runs.{hasHeld};
-ghost use Rattle.spot.specs.Spot.{spotAt};
 ghost use Rattle.atoms.specs.Atoms.{on};
-ghost use Rattle.choices.specs.Choices.{blockGroup, blockIn, sequenceIn, noneIn, emptyIn, commentsIn, needsIn, explicitIn, includedIn, editedIn, bareIn, flushIn, valueColumnIn, itemColumnIn, onDashLineIn, rootColumnIn, bareRootIn};
+ghost use Rattle.choices.specs.Choices.{blockGroup, blockIn, sequenceIn, noneIn, emptyIn, needsIn, explicitIn, includedIn, editedIn, bareIn, flushIn, valueColumnIn, itemColumnIn, onDashLineIn, rootColumnIn, bareRootIn};
 ghost use Rattle.choices.specs.Siblings.{Some, SomeItems, SomePairs};
 
 fn is_block_form(form: Form) -> bool
@@ -119,22 +118,6 @@ pub fn is_empty_scalar(body: Body, pool: &[u8]) -> bool
         Body::Sequence(_) => false,
         Body::Mapping(_) => false,
     }
-}
-
-// `node_has_comments`
-pub fn has_comments(lead: Lead) -> bool
-    ensures { λ r. ⌜ r ≡ commentsIn lead ⌝ }
-{
-    let heads = lead.heads;
-    if heads.count != 0 {
-        return true;
-    }
-    let remark = lead.remark;
-    if remark.present != 0 {
-        return true;
-    }
-    let foots = lead.foots;
-    foots.count != 0
 }
 
 pub fn is_included(origin: Origin) -> bool
@@ -397,30 +380,24 @@ pub fn bare_root(
     false
 }
 
-// The node at a cursor has comments.
-fn has_comments_at(deck: &[u8], c: Cursor) -> bool
-    requires { ⌜ (c .at ≤ length (now deck)) × (length (now deck) ≤ 65536) ⌝ }
-    ensures { λ r. ⌜ r ≡ commentsIn (spotAt (now (deck .entry)) c .lead) ⌝ }
-{
-    let x = spot::spot_at(deck, c);
-    has_comments(x.lead)
-}
-
-// Some of n nodes that stand one after another have comments.
+// Some of n nodes that stand one after another have comments. Where the last one ends is not looked for.
 fn some_comments(deck: &[u8], c: Cursor, n: usize) -> bool
-    requires { ⌜ (c .at ≤ length (now deck)) × (length (now deck) ≤ 65536) ⌝ }
+    requires { ⌜ c .at ≤ length (now deck) ⌝ }
     ensures { λ r. ⌜ Some (now (deck .entry)) c n r ⌝ }
 {
+    if n == 0 {
+        return false;
+    }
     let mut here = c;
     let mut left = n;
-    while left > 0 {
-        if has_comments_at(deck, here) {
+    while left > 1 {
+        if node::has_comments(deck, here) {
             return true;
         }
         here = node::subtree_end(deck, here);
         left -= 1;
     }
-    false
+    node::has_comments(deck, here)
 }
 
 // Some of n items.

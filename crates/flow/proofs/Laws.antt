@@ -313,15 +313,12 @@ module _ (s : Settings) (deck pool : Bytes) where
       }
 
   key-whole :
-      (c r : Cursor) (x : Spot) (i n : ℕ) {P₀ P₁ P₂ P₃ P₄ : Pen} → c .at ≤ length deck → length deck ≤ 65536 → x ≡ spotAt deck c
-      → Draws (props (broughtOf pool (x .lead))) P₀ P₁
+      (r : Cursor) (x : Spot) (i n : ℕ) {P₀ P₁ P₂ P₃ P₄ : Pen} → Draws (props (broughtOf pool (x .lead))) P₀ P₁
       → Emits s (contentIn (withKey 1 P₁) i x) (withKey 1 P₁) P₂ (x .place) (endIn deck pool x) r (length deck)
       → n ≡ P₀ .w .key → P₃ ≡ withKey n P₂ → Colon (x .body) P₃ P₄
-      → Emits s (keyOf deck pool s (F P₀) (K P₀) i (nodeAt deck pool c)) P₀ P₄ (c .at) (nextAt deck pool c) r (length deck)
+      → Emits s (keyOf deck pool s (F P₀) (K P₀) i (nodeIn deck pool x)) P₀ P₄ (x .place) (endIn deck pool x) r (length deck)
   unfolding ink keyOf inlineKey content brought nodeIn on
-  key-whole c r x i n {P₀} {P₁} {P₂} {P₃} k b e d m h q l =
-      let g = spot-good deck c x k b e in
-      let o = m .onward in
+  key-whole r x i n {P₀} {P₁} {P₂} {P₃} d m h q l =
       let y = d .drawn s in
       let a : Script = contentOf s (F P₁) true i (x .place) (keptIn deck pool x) (broughtIn deck pool x) (kindIn deck pool x) in
       let u : P₂ ≡ ink s a (withKey 1 P₁) = unfold withKey in m .drawn in
@@ -329,23 +326,38 @@ module _ (s : Settings) (deck pool : Bytes) where
       let a₀ : Script = contentOf s (F P₀) true i (x .place) (keptIn deck pool x) (broughtIn deck pool x) (kindIn deck pool x) in
       let z : ink s a P₁ ≡ ink s a₀ P₁ = let f₁ : F P₁ ≡ F P₀ = flow-kept s (props (broughtOf pool (x .lead))) P₀ P₁ y in rw f₁ in
       record {
-        drawn = rw (tree-value deck pool c k, ← e) (l .drawn deck pool (x .next) .drawn s ∙ ap (ink s (colon (kindIn deck pool x))) (v ∙ z ∙ ap (ink s a₀) y));
-        next = m .next ∙ rw (tree-end deck pool c k, ← e);
-        onward = omega (arith, o, g .1);
+        drawn = l .drawn deck pool (x .next) .drawn s ∙ ap (ink s (colon (kindIn deck pool x))) (v ∙ z ∙ ap (ink s a₀) y);
+        next = m .next;
+        onward = m .onward;
         within = m .within;
       }
 
   -- the same of writers: the key mark set, and set back
   pub key-whole-is :
-      (c r : Cursor) (x : Spot) (i : ℕ) (w w₁ w₂ u v : Writer) (out out₁ out₂ : Bytes) {P : Pen} → c .at ≤ length deck → length deck ≤ 65536 → x ≡ spotAt deck c
+      (r : Cursor) (x : Spot) (i : ℕ) (w w₁ w₂ u v : Writer) (out out₁ out₂ : Bytes) {P : Pen}
       → Draws (props (broughtOf pool (x .lead))) (pen w out) (pen w₁ out₁) → w₂ ≡ withKey 1 (pen w₁ []) .w
       → Emits s (contentIn (pen w₂ out₁) i x) (pen w₂ out₁) (pen u out₂) (x .place) (endIn deck pool x) r (length deck)
       → v ≡ withKey (w .key) (pen u []) .w → Colon (x .body) (pen v out₂) P
-      → Emits s (keyOf deck pool s (on (w .flow)) (on (w .key)) i (nodeAt deck pool c)) (pen w out) P (c .at) (nextAt deck pool c) r (length deck)
+      → Emits s (keyOf deck pool s (on (w .flow)) (on (w .key)) i (nodeIn deck pool x)) (pen w out) P (x .place) (endIn deck pool x) r (length deck)
   unfolding withKey
-  key-whole-is c r x i w w₁ w₂ u v out out₁ out₂ k b e d a m q l =
+  key-whole-is r x i w w₁ w₂ u v out out₁ out₂ d a m q l =
       let n : Emits s (contentIn (withKey 1 (pen w₁ out₁)) i x) (withKey 1 (pen w₁ out₁)) (pen u out₂) (x .place) (endIn deck pool x) r (length deck) = rw a at m in
-      key-whole c r x i (w .key) k b e d n refl (keyed-is u v (w .key) out₂ q) l
+      key-whole r x i (w .key) d n refl (keyed-is u v (w .key) out₂ q) l
+
+  -- from the key that was read to the one at its cursor
+  pub key-there :
+      (c r : Cursor) (x : Spot) (f k : Bool) (i : ℕ) {P Q : Pen} → c .at ≤ length deck → length deck ≤ 65536 → x ≡ spotAt deck c
+      → Emits s (keyOf deck pool s f k i (nodeIn deck pool x)) P Q (x .place) (endIn deck pool x) r (length deck)
+      → Emits s (keyOf deck pool s f k i (nodeAt deck pool c)) P Q (c .at) (nextAt deck pool c) r (length deck)
+  key-there c r x f k i h b e m =
+      let g = spot-good deck c x h b e in
+      let o = m .onward in
+      record {
+        drawn = rw (tree-value deck pool c h, ← e) (m .drawn);
+        next = m .next ∙ rw (tree-end deck pool c h, ← e);
+        onward = omega (arith, o, g .1);
+        within = m .within;
+      }
 
   pub lined-entry-whole :
       (pairs last : Bool) (c to r : Cursor) (x : Spot) (i : ℕ) {P₀ P₁ P₂ P₃ : Pen} → LastOf deck pairs c to → x ≡ spotAt deck to

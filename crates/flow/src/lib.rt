@@ -12,7 +12,7 @@ ghost use lib.ListN.{length};
 ghost use Rattle.definition.specs.Walk.{contentOf};
 ghost use Rattle.pen.specs.Pen.{pen};
 ghost use Rattle.scripts.specs.Keep.{withFlow};
-ghost use Rattle.spot.specs.Spot.{keptIn, broughtIn, kindIn, endIn};
+ghost use Rattle.spot.specs.Spot.{keptIn, broughtIn, kindIn, nodeIn, endIn};
 ghost use Rattle.spot.specs.Good.{Good, countIn};
 ghost use Rattle.atoms.specs.Atoms.{on};
 ghost use Rattle.joints.specs.Entries.{nodeAt, nextAt, entryEnd, runEnd, itemOf, keyOf, entryOf, flowRun, linedOf, linedRun, linedIn, plainIn, groupOf};
@@ -288,7 +288,8 @@ fn flow_entry(
     ensures { λ r. ⌜ Emits settings (entryOf (now (deck .entry)) (now (pool .entry)) settings (on (w .flow)) (on (w .key)) i pairs c) (pen w (now (out .entry))) (pen (r .w) (now (out .exit))) (c .at) (entryEnd (now (deck .entry)) (now (pool .entry)) pairs c) (r .next) (length (now (deck .entry))) ⌝ }
 {
     if pairs {
-        let e = key(w, deck, pool, out, settings, c, i);
+        let x = spot::spot_at(deck, c);
+        let e = key(w, deck, pool, out, settings, x, i);
         let v = e.w;
         let next = e.next;
         let v1 = v.byte(out, b' ');
@@ -297,23 +298,22 @@ fn flow_entry(
     item(w, deck, pool, out, settings, c, i)
 }
 
-// `emit_key`: the key at a cursor, with its properties and its colon.
+// `emit_key`: a key with its properties and its colon.
 pub fn key(
     w: Writer,
     deck: &[u8],
     pool: &[u8],
     out: &mut [u8],
     settings: Settings,
-    c: Cursor,
+    x: Spot,
     i: usize,
 ) -> Emitted
-    requires { ⌜ Ready settings (now deck) (now pool) (pen w (now out)) (c .at) i ⌝ }
-    ensures { λ r. ⌜ Emits settings (keyOf (now (deck .entry)) (now (pool .entry)) settings (on (w .flow)) (on (w .key)) i (nodeAt (now (deck .entry)) (now (pool .entry)) c)) (pen w (now (out .entry))) (pen (r .w) (now (out .exit))) (c .at) (nextAt (now (deck .entry)) (now (pool .entry)) c) (r .next) (length (now (deck .entry))) ⌝ }
+    requires { ⌜ (Ready settings (now deck) (now pool) (pen w (now out)) (x .place) i) × Good (now deck) x × (countIn (x .body) < 65536) ⌝ }
+    ensures { λ r. ⌜ Emits settings (keyOf (now (deck .entry)) (now (pool .entry)) settings (on (w .flow)) (on (w .key)) i (nodeIn (now (deck .entry)) (now (pool .entry)) x)) (pen w (now (out .entry))) (pen (r .w) (now (out .exit))) (x .place) (endIn (now (deck .entry)) (now (pool .entry)) x) (r .next) (length (now (deck .entry))) ⌝ }
 {
-    let x = spot::spot_at(deck, c);
     let mark = w.key;
     let lead = x.lead;
-    let w1 = parts::put_props(w, pool, out, lead);
+    let w1 = joints::put_props(w, pool, out, lead);
     let w2 = joints::with_key(w1, 1);
     let e = content(w2, deck, pool, out, settings, x, i);
     let u = e.w;
@@ -339,6 +339,6 @@ pub fn item(
 {
     let x = spot::spot_at(deck, c);
     let lead = x.lead;
-    let w1 = parts::put_props(w, pool, out, lead);
+    let w1 = joints::put_props(w, pool, out, lead);
     content(w1, deck, pool, out, settings, x, i)
 }

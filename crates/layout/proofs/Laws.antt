@@ -9,7 +9,7 @@ use lib.ListN.{length}
 use Rattle.definition.specs.Base.{Bytes, if_then_else_, spaces}
 use Rattle.definition.specs.Ascii.{LF, SP}
 use Rattle.definition.specs.Deck.{marked, layoutOf}
-use Rattle.definition.specs.Tree.{kept}
+use Rattle.definition.specs.Tree.{Kept}
 use Rattle.definition.specs.Pen.{mark, space, Script, comment, endLine, _>>_, newline, indent, sign}
 use Rattle.definition.specs.Walk.{props, propsCompact, includeLine, belowIntroducer, inlined, valueOf, bare, content, contentOf}
 use Rattle.definition.specs.declared.Cursor.{Cursor}
@@ -23,15 +23,14 @@ use Rattle.pen.specs.Pen.{Pen, pen, put1, puts, lineEnded, ink}
 use Rattle.scripts.specs.Keep.{withKey, flow-of, key-of, length-of, ink-in-key}
 use Rattle.parts.specs.Draws.{Draws, both, of-byte, of-end, of-puts}
 use Rattle.parts.specs.Lines.{directed, closes, belowOpen, breaks, beforeItem, beforeKey}
-use Rattle.parts.specs.Runs.{Short}
 use Rattle.spot.specs.declared.Body.{Body}
 use Rattle.spot.specs.declared.Body.the-variants as body
 use Rattle.spot.specs.declared.Spot.{Spot}
-use Rattle.spot.specs.Spot.{kindOf, endOf, keptIn, broughtIn, kindIn, endIn, nodeIn, spotAt, tree-value}
-use Rattle.spot.specs.Good.{Good, good-at}
+use Rattle.spot.specs.Spot.{kindOf, endOf, keptIn, broughtIn, kindIn, endIn, nodeIn}
+use Rattle.spot.specs.Good.{Good}
 use Rattle.atoms.specs.Atoms.{on}
 use Rattle.choices.specs.Choices.{bareIn, bare-is, emptyIn}
-use Rattle.joints.specs.Entries.{nodeAt, nextAt}
+use Rattle.joints.specs.Entries.{nextAt}
 use Rattle.flow.specs.Ready.{Ready, Emits, keyed}
 use Rattle.layout.specs.Emitting.{drawn-first, drawn-last, emits-yes, emits-no, emits-same, calm-content}
 use Rattle.layout.specs.Stretch.{before, includeAfter, keyLine}
@@ -145,13 +144,10 @@ kept-length s {a} {P} {Q} e = length-of s a P Q (e .drawn)
 
 -- ---- before an item or a pair
 
-pub before-pair : (deck pool : Bytes) (pairs : Bool) (c : Cursor) (x : Spot) (i : ℕ) {P Q : Pen} → c .at ≤ length deck → x ≡ spotAt deck c → pairs ≡ true → Draws (beforeKey (keptOf deck pool (x .lead)) i) P Q → Draws (before pairs (kept (nodeAt deck pool c)) i) P Q
-unfolding before kept nodeIn
-before-pair deck pool pairs c x i k e t d = rw (t, tree-value deck pool c k, ← e) d
+pub before-pair : (pairs : Bool) (a : Kept) (i : ℕ) {P Q : Pen} → pairs ≡ true → Draws (beforeKey a i) P Q → Draws (before pairs a i) P Q
+unfolding before
+before-pair pairs a i t d = rw t d
 
-pub before-item : (deck pool : Bytes) (pairs : Bool) (c : Cursor) (x : Spot) (i : ℕ) {P Q : Pen} → c .at ≤ length deck → x ≡ spotAt deck c → pairs ≡ false → Draws (beforeItem (keptOf deck pool (x .lead)) i) P Q → Draws (before pairs (kept (nodeAt deck pool c)) i) P Q
-unfolding before kept nodeIn
-before-item deck pool pairs c x i k e t d = rw (t, tree-value deck pool c k, ← e) d
-
-pub spot-short : (deck : Bytes) (c : Cursor) (x : Spot) → c .at ≤ length deck → length deck ≤ 65536 → x ≡ spotAt deck c → Short (x .lead)
-spot-short deck c x k b e = rw e (good-at deck c k b .0 .short)
+pub before-item : (pairs : Bool) (a : Kept) (i : ℕ) {P Q : Pen} → pairs ≡ false → Draws (beforeItem a i) P Q → Draws (before pairs a i) P Q
+unfolding before
+before-item pairs a i t d = rw t d

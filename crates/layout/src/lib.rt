@@ -2,6 +2,7 @@
 use definition::Cursor;
 use definition::Settings;
 use flow::Emitted;
+use node::Lead;
 use pen::Writer;
 use spot::Spot;
 ghost use mathlib.Core.Path.{_≡_};
@@ -9,14 +10,15 @@ ghost use Prim.Native.Nat.{_<_, _≤_, _^_};
 ghost use mathlib.Core.Bool.{false};
 ghost use lib.ListN.{length};
 ghost use Rattle.definition.specs.Base.{if_then_else_};
-ghost use Rattle.definition.specs.Tree.{kept};
 ghost use Rattle.definition.specs.Pen.{nothing};
 ghost use Rattle.definition.specs.Walk.{belowIntroducer, inlined, valueOf, bare, content};
+ghost use Rattle.node.specs.Total.{keptOf};
 ghost use Rattle.pen.specs.Pen.{pen};
 ghost use Rattle.parts.specs.Draws.{Draws};
+ghost use Rattle.parts.specs.Runs.{Short};
 ghost use Rattle.spot.specs.Spot.{keptIn, broughtIn, kindIn, nodeIn, endIn};
 ghost use Rattle.spot.specs.Good.{Good, countIn};
-ghost use Rattle.joints.specs.Entries.{nodeAt, nextAt};
+ghost use Rattle.joints.specs.Entries.{nextAt};
 ghost use Rattle.flow.specs.Ready.{Ready, Emits};
 ghost use Rattle.layout.specs.Stretch.{before, includeAfter, keyLine};
 
@@ -52,7 +54,7 @@ pub fn put_inlined(
     requires { ⌜ (Ready settings (now deck) (now pool) (pen w (now out)) (x .place) i) × Good (now deck) x × (countIn (x .body) < 65536) × (w .flow ≡ 0) × (w .key ≡ 0) ⌝ }
     ensures { λ r. ⌜ Emits settings (inlined (x .place) (keptIn (now (deck .entry)) (now (pool .entry)) x) (broughtIn (now (deck .entry)) (now (pool .entry)) x) (content settings false false i (nodeIn (now (deck .entry)) (now (pool .entry)) x))) (pen w (now (out .entry))) (pen (r .w) (now (out .exit))) (x .place) (endIn (now (deck .entry)) (now (pool .entry)) x) (r .next) (length (now (deck .entry))) ⌝ }
 {
-    let w1 = parts::put_props(w, pool, out, x.lead);
+    let w1 = joints::put_props(w, pool, out, x.lead);
     let e = flow::content(w1, deck, pool, out, settings, x, i);
     let next = e.next;
     let v = parts::put_close(e.w, pool, out, x.place, x.lead);
@@ -120,7 +122,7 @@ pub fn put_key_line(
     ensures { λ r. ⌜ Emits settings (keyLine settings i (broughtIn (now (deck .entry)) (now (pool .entry)) x) (nodeIn (now (deck .entry)) (now (pool .entry)) x)) (pen w (now (out .entry))) (pen (r .w) (now (out .exit))) (x .place) (endIn (now (deck .entry)) (now (pool .entry)) x) (r .next) (length (now (deck .entry))) ⌝ }
 {
     let w1 = w.byte(out, b' ');
-    let w2 = parts::put_props(w1, pool, out, x.lead);
+    let w2 = joints::put_props(w1, pool, out, x.lead);
     let w3 = joints::with_key(w2, 1);
     let e = flow::content(w3, deck, pool, out, settings, x, i);
     let next = e.next;
@@ -129,43 +131,25 @@ pub fn put_key_line(
     Emitted { w: v, next }
 }
 
-// What stands before an item or a pair.
-fn put_before_at(
-    w: Writer,
-    deck: &[u8],
-    pool: &[u8],
-    out: &mut [u8],
-    pairs: bool,
-    c: Cursor,
-    i: usize,
-) -> Writer
-    requires { ⌜ (length (now out) < 2 ^ 62) × (c .at ≤ length (now deck)) × (length (now deck) ≤ 65536) ⌝ }
-    ensures { λ r. ⌜ Draws (before pairs (kept (nodeAt (now (deck .entry)) (now (pool .entry)) c)) i) (pen w (now (out .entry))) (pen r (now (out .exit))) ⌝ }
-{
-    let x = spot::spot_at(deck, c);
-    let lead = x.lead;
-    if pairs {
-        return parts::put_before_key(w, deck, pool, out, lead, i);
-    }
-    parts::put_before_item(w, deck, pool, out, lead, i)
-}
-
-// The same, unless its line is begun already.
+// What stands before an item or a pair, unless its line is begun already.
 pub fn put_before(
     w: Writer,
     deck: &[u8],
     pool: &[u8],
     out: &mut [u8],
     pairs: bool,
-    c: Cursor,
+    lead: Lead,
     i: usize,
-    lead: bool,
+    begin: bool,
 ) -> Writer
-    requires { ⌜ (length (now out) < 2 ^ 62) × (c .at ≤ length (now deck)) × (length (now deck) ≤ 65536) ⌝ }
-    ensures { λ r. ⌜ Draws (if lead then before pairs (kept (nodeAt (now (deck .entry)) (now (pool .entry)) c)) i else nothing) (pen w (now (out .entry))) (pen r (now (out .exit))) ⌝ }
+    requires { ⌜ (length (now out) < 2 ^ 62) × Short lead ⌝ }
+    ensures { λ r. ⌜ Draws (if begin then before pairs (keptOf (now (deck .entry)) (now (pool .entry)) lead) i else nothing) (pen w (now (out .entry))) (pen r (now (out .exit))) ⌝ }
 {
-    if lead {
-        return put_before_at(w, deck, pool, out, pairs, c, i);
+    if begin {
+        if pairs {
+            return parts::put_before_key(w, deck, pool, out, lead, i);
+        }
+        return parts::put_before_item(w, deck, pool, out, lead, i);
     }
     w
 }

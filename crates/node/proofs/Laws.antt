@@ -4,9 +4,10 @@ use Prim.Native.Nat.{ℕ, zero, suc, _+_, _-_, _<_, _≤_}
 use native.Mathlib.Omega.{arith}
 use mathlib.Core.Bool.{Bool, true, false}
 use lib.ListN.{length}
+use lib.Dec.{eqb}
 use borrow.Author.Tests.{eq-eqb, ne-eqb}
-use Rattle.definition.specs.Base.{Bytes}
-use Rattle.definition.specs.Records.{recordAt}
+use Rattle.definition.specs.Base.{Bytes, if_then_else_}
+use Rattle.definition.specs.Records.{kindAt, recordOf, recordAt}
 use Rattle.definition.specs.Deck.{isNode}
 use Rattle.definition.specs.declared.Cursor.{Cursor}
 use Rattle.definition.specs.declared.Record.{Record}
@@ -17,6 +18,7 @@ use Rattle.node.specs.declared.Run.{Run}
 use Rattle.node.specs.declared.Lead.{Lead}
 use Rattle.node.specs.declared.Head.{Head}
 use Rattle.node.specs.Head.{onto, noLead, addTo, Small, headed, headFrom, headAt, ownFrom}
+use Rattle.node.specs.Comments.{isComment, commentFrom}
 use Rattle.node.specs.Total.{treeAt}
 use Rattle.node.specs.Fuel.{nexts, head-at-onward, next-within, own-is, tree-next}
 
@@ -103,6 +105,68 @@ module _ (deck : Bytes) where
 
   pub own-place : (c : Cursor) → ownFrom deck (length deck) c ≡ headAt deck c .place
   own-place c = sym (own-is deck c)
+
+-- ---- its comments
+
+comment-pass : (b : Bool) (x y : Record) → isComment x ≡ false → isComment y ≡ false → isComment (if b then x else y) ≡ false
+comment-pass true x y p q = p
+comment-pass false x y p q = q
+
+module _ (deck : Bytes) (c : Cursor) (k : ℕ) (f : k ≡ kindAt deck c) where
+  pub comment-head : k ≡ 0x04 → true ≡ isComment (recordAt deck c)
+  unfolding recordAt recordOf isComment
+  comment-head e = rw (← f, e)
+
+  pub comment-inline : k ≡ 0x05 → true ≡ isComment (recordAt deck c)
+  unfolding recordAt recordOf isComment
+  comment-inline e = rw (← f, e)
+
+  pub comment-foot : k ≡ 0x06 → true ≡ isComment (recordAt deck c)
+  unfolding recordAt recordOf isComment
+  comment-foot e = rw (← f, e)
+
+  -- only kinds 04, 05 and 06 are comments
+  no-comment : (at : ℕ) → (k ≡ 0x04 → ⊥) → (k ≡ 0x05 → ⊥) → (k ≡ 0x06 → ⊥) → isComment (recordOf k deck at) ≡ false
+  unfolding recordOf isComment
+  no-comment at p q r =
+      rw (ne-eqb k 0x04 p, ne-eqb k 0x05 q, ne-eqb k 0x06 r)
+      (comment-pass (eqb k 0x01) _ _ refl
+      (comment-pass (eqb k 0x02) _ _ refl
+      (comment-pass (eqb k 0x03) _ _ refl
+      (comment-pass (eqb k 0x07) _ _ refl
+      (comment-pass (eqb k 0x08) _ _ refl
+      (comment-pass (eqb k 0x09) _ _ refl
+      (comment-pass (eqb k 0x21) _ _ refl
+      (comment-pass (eqb k 0x22) _ _ refl
+      (comment-pass (eqb k 0x23) _ _ refl
+      (comment-pass (eqb k 0x24) _ _ refl refl))))))))))
+
+  pub comment-other : (k ≡ 0x04 → ⊥) → (k ≡ 0x05 → ⊥) → (k ≡ 0x06 → ⊥) → false ≡ isComment (recordAt deck c)
+  unfolding recordAt
+  comment-other p q r = rw (← f, no-comment (c .at + 1) p q r)
+
+module _ (deck : Bytes) where
+  pub comment-stop : (n : ℕ) (c : Cursor) (b : Bool) → b ≡ isNode (recordAt deck c) → b ≡ true → false ≡ commentFrom deck n c
+  unfolding commentFrom
+  comment-stop zero c b e t = refl
+  comment-stop (suc n) c b e t = rw (← e, t)
+
+  pub comment-here :
+      (n : ℕ) (c : Cursor) (b d : Bool) → 0 < n → b ≡ isNode (recordAt deck c) → b ≡ false → d ≡ isComment (recordAt deck c) → d ≡ true → true ≡ commentFrom deck n c
+  unfolding commentFrom
+  comment-here zero c b d h e f g t = absurd (omega arith)
+  comment-here (suc n) c b d h e f g t = rw (← e, f, ← g, t)
+
+  pub comment-more :
+      (n : ℕ) (c next : Cursor) (b d : Bool) → 0 < n → b ≡ isNode (recordAt deck c) → b ≡ false → d ≡ isComment (recordAt deck c) → d ≡ false → next ≡ nextOf deck c →
+      commentFrom deck (n - 1) next ≡ commentFrom deck n c
+  unfolding commentFrom
+  comment-more zero c next b d h e f g t x = absurd (omega arith)
+  comment-more (suc n) c next b d h e f g t x = let s : suc n - 1 ≡ n = omega arith in rw (s, ← e, f, ← g, t, x)
+
+  pub comment-done : (n : ℕ) (c : Cursor) → n ≡ 0 → false ≡ commentFrom deck n c
+  unfolding commentFrom
+  comment-done n c e = rw e
 
 -- ---- where a subtree ends
 

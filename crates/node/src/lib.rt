@@ -9,8 +9,10 @@ use definition::Trailer;
 ghost use mathlib.Core.Path.{_≡_};
 ghost use Prim.Native.Nat.{_<_, _≤_};
 ghost use lib.ListN.{length};
+ghost use Rattle.definition.specs.Records.{recordAt};
 ghost use Rattle.node.specs.Head.{noLead, onto, withTag, withAnchor, withOrigin, withRemark, withRaw, withLines, moreHeads, moreFoots, moreDirectives, addTo, Small, headed, headAt};
 ghost use Rattle.node.specs.Ends.{Ends};
+ghost use Rattle.node.specs.Comments.{isComment, commented};
 
 // A text that may be absent: present is 0 or 1.
 pub struct Held {
@@ -279,6 +281,38 @@ fn own_at(deck: &[u8], c: Cursor) -> Cursor
         left -= 1;
     }
     here
+}
+
+// The record at a cursor is a head, inline or foot comment.
+fn is_comment(deck: &[u8], c: Cursor) -> bool
+    ensures { λ r. ⌜ r ≡ isComment (recordAt (now (deck .entry)) c) ⌝ }
+{
+    match deck::kind(deck, c) {
+        0x04 => true,
+        0x05 => true,
+        0x06 => true,
+        _ => false,
+    }
+}
+
+// `node_has_comments`: a leading record of the node at a cursor is a comment.
+pub fn has_comments(deck: &[u8], c: Cursor) -> bool
+    requires { ⌜ c .at ≤ length (now deck) ⌝ }
+    ensures { λ r. ⌜ r ≡ commented (headAt (now (deck .entry)) c .lead) ⌝ }
+{
+    let mut here = c;
+    let mut left = deck.len();
+    while left > 0 {
+        if deck::is_node(deck, here) {
+            return false;
+        }
+        if is_comment(deck, here) {
+            return true;
+        }
+        here = deck::next(deck, here);
+        left -= 1;
+    }
+    false
 }
 
 // Where the subtree at a cursor ends.

@@ -57,12 +57,12 @@ use Rattle.spot.proofs.spot_at.Reads as spot-at-reads
 use Rattle.block.proofs.+put_dash+put_dashed+put_key+put_members+put_question+put_row+put_rows+put_under+put_value.{statement}
 use Rattle.block.proofs.+put_dash+put_dashed+put_key+put_members+put_question+put_row+put_rows+put_under+put_value.Tie.{close}
 use Rattle.block.proofs.+put_dash+put_dashed+put_key+put_members+put_question+put_row+put_rows+put_under+put_value.Proof.Base.{μ-put-dash, μ-put-dashed, μ-put-key, μ-put-members, μ-put-question, μ-put-row, μ-put-rows, μ-put-under, μ-put-value, put-dash-at, put-dash-below, put-dashed-at, put-dashed-below, put-key-at, put-key-below, put-members-at, put-members-below, put-question-at, put-question-below, put-row-at, put-row-below, put-rows-at, put-rows-below, put-under-at, put-under-below, put-value-at, put-value-below, put-dash-claims, put-dashed-claims, put-key-claims, put-members-claims, put-question-claims, put-row-claims, put-rows-claims, put-under-claims, put-value-claims}
-use Rattle.block.proofs.+put_dash+put_dashed+put_key+put_members+put_question+put_row+put_rows+put_under+put_value.Proof.PutDash.{put-dash-spot-at-requires, put-dash-byte-requires, put-dash-is-included-requires, put-dash-put-include-requires, put-dash-same-length, put-dash-returns, put-dash-is-block-requires, put-dash-put-dashed-requires, put-dash-same-length-2, put-dash-returns-2, put-dash-add-put-value, put-dash-put-value-requires, put-dash-same-length-3, put-dash-returns-3}
+use Rattle.block.proofs.+put_dash+put_dashed+put_key+put_members+put_question+put_row+put_rows+put_under+put_value.Proof.PutDash.{put-dash-byte-requires, put-dash-is-included-requires, put-dash-put-include-requires, put-dash-same-length, put-dash-returns, put-dash-is-block-requires, put-dash-put-dashed-requires, put-dash-same-length-2, put-dash-returns-2, put-dash-add-put-value, put-dash-put-value-requires, put-dash-same-length-3, put-dash-returns-3}
 use Rattle.block.proofs.+put_dash+put_dashed+put_key+put_members+put_question+put_row+put_rows+put_under+put_value.Proof.PutDashed.{put-dashed-on-dash-line-requires, put-dashed-byte-requires, put-dashed-add-put-members, put-dashed-put-members-requires, put-dashed-add-with-foots, put-dashed-with-foots-requires, put-dashed-same-length, put-dashed-returns, put-dashed-item-column-requires, put-dashed-add-put-under, put-dashed-put-under-requires, put-dashed-same-length-2, put-dashed-returns-2}
-use Rattle.block.proofs.+put_dash+put_dashed+put_key+put_members+put_question+put_row+put_rows+put_under+put_value.Proof.PutKey.{put-key-spot-at-requires, put-key-is-explicit-requires, put-key-byte-requires, put-key-put-question-requires, put-key-with-colon-requires, put-key-same-length, put-key-returns, put-key-key-requires, put-key-same-length-2, put-key-returns-2}
+use Rattle.block.proofs.+put_dash+put_dashed+put_key+put_members+put_question+put_row+put_rows+put_under+put_value.Proof.PutKey.{put-key-is-explicit-requires, put-key-byte-requires, put-key-put-question-requires, put-key-with-colon-requires, put-key-same-length, put-key-returns, put-key-key-requires, put-key-same-length-2, put-key-returns-2}
 use Rattle.block.proofs.+put_dash+put_dashed+put_key+put_members+put_question+put_row+put_rows+put_under+put_value.Proof.PutMembers.{put-members-enum-told, put-members-enum-told-2, put-members-enum-told-3, put-members-enum-known-body, put-members-put-rows-requires, put-members-enum-known-body-2, put-members-put-rows-requires-2, put-members-returns, put-members-returns-2, put-members-returns-3, put-members-same-length, put-members-returns-4, put-members-same-length-2, put-members-returns-5}
 use Rattle.block.proofs.+put_dash+put_dashed+put_key+put_members+put_question+put_row+put_rows+put_under+put_value.Proof.PutQuestion.{put-question-step-of-requires, put-question-add-j, put-question-is-block-requires, put-question-put-props-compact-requires, put-question-byte-requires, put-question-put-members-requires, put-question-same-length, put-question-returns, put-question-put-key-line-requires, put-question-same-length-2, put-question-returns-2}
-use Rattle.block.proofs.+put_dash+put_dashed+put_key+put_members+put_question+put_row+put_rows+put_under+put_value.Proof.PutRow.{put-row-put-before-requires, put-row-put-key-requires, put-row-put-value-requires, put-row-same-length, put-row-returns, put-row-put-dash-requires, put-row-same-length-2, put-row-returns-2}
+use Rattle.block.proofs.+put_dash+put_dashed+put_key+put_members+put_question+put_row+put_rows+put_under+put_value.Proof.PutRow.{put-row-spot-at-requires, put-row-put-before-requires, put-row-put-key-requires, put-row-put-value-requires, put-row-same-length, put-row-returns, put-row-put-dash-requires, put-row-same-length-2, put-row-returns-2}
 use Rattle.block.proofs.+put_dash+put_dashed+put_key+put_members+put_question+put_row+put_rows+put_under+put_value.Proof.PutRows.{put-rows-Inv-loop, put-rows-μ-loop, put-rows-loop-holds, put-rows-put-row-requires, put-rows-sub-left, put-rows-loop-less, put-rows-loop-again, put-rows-same-length, put-rows-returns}
 use Rattle.block.proofs.+put_dash+put_dashed+put_key+put_members+put_question+put_row+put_rows+put_under+put_value.Proof.PutUnder.{put-under-put-opening-requires, put-under-put-members-requires, put-under-with-foots-requires, put-under-same-length, put-under-returns}
 use Rattle.block.proofs.+put_dash+put_dashed+put_key+put_members+put_question+put_row+put_rows+put_under+put_value.Proof.PutValue.{put-value-spot-at-requires, put-value-is-included-requires, put-value-put-include-requires, put-value-same-length, put-value-returns, put-value-is-block-requires, put-value-value-column-requires, put-value-put-under-requires, put-value-same-length-2, put-value-returns-2, put-value-step-of-requires, put-value-add-j, put-value-put-value-requires, put-value-same-length-3, put-value-returns-3}
@@ -83,7 +83,6 @@ pub +put-dash+put-dashed+put-key+put-members+put-question+put-row+put-rows+put-u
     (λ t. put-dash-lts.spec (put-dash-claims t)
     (put-dash-at t)
     put-dash.Post
-    (put-dash-spot-at-requires t)
     (put-dash-byte-requires t)
     (put-dash-is-included-requires t)
     (put-dash-put-include-requires t)
@@ -116,7 +115,6 @@ pub +put-dash+put-dashed+put-key+put-members+put-question+put-row+put-rows+put-u
     (λ t. put-key-lts.spec (put-key-claims t)
     (put-key-at t)
     put-key.Post
-    (put-key-spot-at-requires t)
     (put-key-is-explicit-requires t)
     (put-key-byte-requires t)
     (put-key-put-question-requires t)
@@ -161,6 +159,7 @@ pub +put-dash+put-dashed+put-key+put-members+put-question+put-row+put-rows+put-u
     (λ t. put-row-lts.spec (put-row-claims t)
     (put-row-at t)
     put-row.Post
+    (put-row-spot-at-requires t)
     (put-row-put-before-requires t)
     (put-row-put-key-requires t)
     (put-row-put-value-requires t)

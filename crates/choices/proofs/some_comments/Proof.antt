@@ -1,53 +1,61 @@
 use mathlib.Core.Path.{refl}
 use native.Mathlib.Omega.{arith}
 use borrow.Author.Needs.{needs}
-use Prim.Native.Nat.{_≤_}
+use Prim.Native.Nat.{_<_, _≤_}
 use lib.ListN.{length}
-use Rattle.choices.proofs.Laws.{Same, found, passed, done}
+use Rattle.choices.proofs.Laws.{Same, found, passed, last, none}
 use Rattle.choices.proofs.some_comments.Statement.{statement}
 use Rattle.choices.proofs.some_comments.Tie as tie
 use Rattle.choices.proofs.some_comments.Reads as reads
 use Rattle.choices.proofs.some_comments.Lts as lts
-use Rattle.choices.proofs.has_comments_at.Reads as has-comments-at-reads
+use Rattle.node.proofs.has_comments.Reads as has-comments-reads
 use Rattle.node.proofs.subtree_end.Reads as subtree-end-reads
 
 abbrev Inv-loop : tie.InvT-loop
-Inv-loop deck n here₀ left₀ here left = Same deck left here left₀ here₀ × (here .at ≤ length deck)
+Inv-loop deck n here₀ left₀ here left = Same deck left here left₀ here₀ × (here .at ≤ length deck) × (0 < left)
 
 abbrev μ-loop : tie.MeasureT-loop
 μ-loop deck n here₀ left₀ here left = left
 
--- src/lib.rt:409:5
-loop-holds : tie.Need-loop-holds Inv-loop μ-loop
-loop-holds c = (record { same = λ pool. refl }, c .before .pre .0)
-
--- src/lib.rt:410:12
-has-comments-at-requires : tie.Need-has-comments-at-requires Inv-loop μ-loop
-has-comments-at-requires c κs = (c .before .loop .inv .1, c .before .before .before .pre .1)
-
--- src/lib.rt:411:13
+-- src/lib.rt:389:9
 returns : tie.Need-returns Inv-loop μ-loop
-returns c = found _ _ _ _ _ (c .before .before .loop-test .taken) (c .before .before .before .loop .inv .1) (c .before .has-comments-at .ensures) (c .if1 .taken) (c .before .before .before .loop .inv .0)
+returns c = none _ _ _ (c .if1 .taken)
 
--- src/lib.rt:413:9
+-- src/lib.rt:393:5
+loop-holds : tie.Need-loop-holds Inv-loop μ-loop
+loop-holds c = (record { same = λ pool. refl }, (c .before .before .pre), (let z = c .if1 .left in omega arith))
+
+-- src/lib.rt:394:12
+has-comments-requires : tie.Need-has-comments-requires Inv-loop μ-loop
+has-comments-requires c κs = c .before .loop .inv .1
+
+-- src/lib.rt:395:13
+returns-2 : tie.Need-returns-2 Inv-loop μ-loop
+returns-2 c = found _ _ _ _ _ (c .before .before .before .loop .inv .2) (c .before .before .before .loop .inv .1) (c .before .has-comments .ensures) (c .if2 .taken) (c .before .before .before .loop .inv .0)
+
+-- src/lib.rt:397:9
 subtree-end-requires : tie.Need-subtree-end-requires Inv-loop μ-loop
 subtree-end-requires c κs = c .before .before .before .loop .inv .1
 
--- src/lib.rt:414:9
+-- src/lib.rt:398:9
 sub-left : tie.Need-sub-left Inv-loop μ-loop
 sub-left c = search needs
 
--- src/lib.rt:409:5
+-- src/lib.rt:393:5
 loop-less : tie.Need-loop-less Inv-loop μ-loop
 loop-less c = search needs
 
--- src/lib.rt:409:5
+-- src/lib.rt:393:5
 loop-again : tie.Need-loop-again Inv-loop μ-loop
-loop-again c = (passed _ _ _ _ _ (c .before .before .before .loop-test .taken) (c .before .before .before .before .loop .inv .1) (c .before .before .has-comments-at .ensures) (c .before .if1 .left) (c .subtree-end .ensures) (c .before .before .before .before .loop .inv .0), c .subtree-end .ensures .within)
+loop-again c = (passed _ _ _ _ _ (c .before .before .before .before .loop .inv .2) (c .before .before .before .before .loop .inv .1) (c .before .before .has-comments .ensures) (c .before .if2 .left) (c .subtree-end .ensures) (c .before .before .before .before .loop .inv .0), c .subtree-end .ensures .within, (let z = c .before .before .before .loop-test .taken in omega arith))
 
--- src/lib.rt:403:1
-returns-2 : tie.Need-returns-2 Inv-loop μ-loop
-returns-2 c = done _ _ _ _ _ (let z = c .loop-test .left in omega arith) (c .before .loop .inv .0)
+-- src/lib.rt:400:5
+has-comments-requires-2 : tie.Need-has-comments-requires-2 Inv-loop μ-loop
+has-comments-requires-2 c κs = c .before .loop .inv .1
+
+-- src/lib.rt:384:1
+returns-3 : tie.Need-returns-3 Inv-loop μ-loop
+returns-3 c = last _ _ _ _ _ _ (let y = c .before .before .loop .inv .2 in let z = c .before .loop-test .left in omega arith) (c .before .before .loop .inv .1) (c .has-comments2 .ensures) (c .before .before .loop .inv .0)
 
 pub some-comments-spec : {M : Type 1} → statement M
 some-comments-spec =
@@ -55,11 +63,13 @@ some-comments-spec =
     (tie.spec
     Inv-loop
     μ-loop
-    loop-holds
-    has-comments-at-requires
     returns
+    loop-holds
+    has-comments-requires
+    returns-2
     subtree-end-requires
     sub-left
     loop-less
     loop-again
-    returns-2)
+    has-comments-requires-2
+    returns-3)

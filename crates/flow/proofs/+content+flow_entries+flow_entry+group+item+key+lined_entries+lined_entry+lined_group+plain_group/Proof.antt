@@ -56,7 +56,7 @@ use Rattle.joints.proofs.put_lined_before.Reads as put-lined-before-reads
 use Rattle.joints.proofs.with_flow.Reads as with-flow-reads
 use Rattle.joints.proofs.with_key.Reads as with-key-reads
 use Rattle.parts.proofs.is_marked.Reads as is-marked-reads
-use Rattle.parts.proofs.put_props.Reads as put-props-reads
+use Rattle.joints.proofs.put_props.Reads as put-props-reads
 use Rattle.pen.proofs.Writer.byte.Reads as byte-reads
 use Rattle.pen.proofs.Writer.spaces.Reads as spaces-reads
 use Rattle.spot.proofs.spot_at.Reads as spot-at-reads
@@ -65,10 +65,10 @@ use Rattle.flow.proofs.+content+flow_entries+flow_entry+group+item+key+
 use Rattle.flow.proofs.+content+flow_entries+flow_entry+group+item+key+lined_entries+lined_entry+lined_group+plain_group.Proof.Base.{μ-content, μ-flow-entries, μ-flow-entry, μ-group, μ-item, μ-key, μ-lined-entries, μ-lined-entry, μ-lined-group, μ-plain-group, content-at, content-below, flow-entries-at, flow-entries-below, flow-entry-at, flow-entry-below, group-at, group-below, item-at, item-below, key-at, key-below, lined-entries-at, lined-entries-below, lined-entry-at, lined-entry-below, lined-group-at, lined-group-below, plain-group-at, plain-group-below, content-claims, flow-entries-claims, flow-entry-claims, group-claims, item-claims, key-claims, lined-entries-claims, lined-entry-claims, lined-group-claims, plain-group-claims}
 use Rattle.flow.proofs.+content+flow_entries+flow_entry+group+item+key+lined_entries+lined_entry+lined_group+plain_group.Proof.Content.{content-enum-told, content-put-null-requires, content-enum-known-body, content-is-marked-requires, content-put-words-requires, content-enum-known-body-2, content-put-alias-requires, content-enum-known-body-3, content-group-requires, content-enum-known-body-4, content-group-requires-2, content-same-length, content-returns, content-same-length-2, content-returns-2, content-same-length-3, content-returns-3, content-same-length-4, content-returns-4, content-same-length-5, content-returns-5}
 use Rattle.flow.proofs.+content+flow_entries+flow_entry+group+item+key+lined_entries+lined_entry+lined_group+plain_group.Proof.FlowEntries.{flow-entries-Inv-loop, flow-entries-μ-loop, flow-entries-loop-holds, flow-entries-put-between-requires, flow-entries-flow-entry-requires, flow-entries-sub-left, flow-entries-loop-less, flow-entries-loop-again, flow-entries-same-length, flow-entries-returns}
-use Rattle.flow.proofs.+content+flow_entries+flow_entry+group+item+key+lined_entries+lined_entry+lined_group+plain_group.Proof.FlowEntry.{flow-entry-key-requires, flow-entry-byte-requires, flow-entry-item-requires, flow-entry-same-length, flow-entry-returns, flow-entry-item-requires-2, flow-entry-same-length-2, flow-entry-returns-2}
+use Rattle.flow.proofs.+content+flow_entries+flow_entry+group+item+key+lined_entries+lined_entry+lined_group+plain_group.Proof.FlowEntry.{flow-entry-spot-at-requires, flow-entry-key-requires, flow-entry-byte-requires, flow-entry-item-requires, flow-entry-same-length, flow-entry-returns, flow-entry-item-requires-2, flow-entry-same-length-2, flow-entry-returns-2}
 use Rattle.flow.proofs.+content+flow_entries+flow_entry+group+item+key+lined_entries+lined_entry+lined_group+plain_group.Proof.Group.{group-add-with-flow, group-with-flow-requires, group-step-of-requires, group-add-j, group-commented-requires, group-lined-group-requires, group-back-requires, group-same-length, group-returns, group-plain-group-requires, group-back-requires-2, group-same-length-2, group-returns-2}
 use Rattle.flow.proofs.+content+flow_entries+flow_entry+group+item+key+lined_entries+lined_entry+lined_group+plain_group.Proof.Item.{item-spot-at-requires, item-put-props-requires, item-content-requires, item-same-length, item-returns}
-use Rattle.flow.proofs.+content+flow_entries+flow_entry+group+item+key+lined_entries+lined_entry+lined_group+plain_group.Proof.Key.{key-spot-at-requires, key-put-props-requires, key-with-key-requires, key-content-requires, key-with-key-requires-2, key-put-colon-requires, key-same-length, key-returns}
+use Rattle.flow.proofs.+content+flow_entries+flow_entry+group+item+key+lined_entries+lined_entry+lined_group+plain_group.Proof.Key.{key-put-props-requires, key-with-key-requires, key-content-requires, key-with-key-requires-2, key-put-colon-requires, key-same-length, key-returns}
 use Rattle.flow.proofs.+content+flow_entries+flow_entry+group+item+key+lined_entries+lined_entry+lined_group+plain_group.Proof.LinedEntries.{lined-entries-Inv-loop, lined-entries-μ-loop, lined-entries-loop-holds, lined-entries-lined-entry-requires, lined-entries-sub-left, lined-entries-loop-less, lined-entries-loop-again, lined-entries-same-length, lined-entries-returns}
 use Rattle.flow.proofs.+content+flow_entries+flow_entry+group+item+key+lined_entries+lined_entry+lined_group+plain_group.Proof.LinedEntry.{lined-entry-last-of-requires, lined-entry-spot-at-requires, lined-entry-put-lined-before-requires, lined-entry-flow-entry-requires, lined-entry-put-lined-after-requires, lined-entry-same-length, lined-entry-returns}
 use Rattle.flow.proofs.+content+flow_entries+flow_entry+group+item+key+lined_entries+lined_entry+lined_group+plain_group.Proof.LinedGroup.{lined-group-opening-of-requires, lined-group-byte-requires, lined-group-byte-requires-2, lined-group-lined-entries-requires, lined-group-spaces-requires, lined-group-closing-of-requires, lined-group-byte-requires-3, lined-group-same-length, lined-group-returns}
@@ -128,6 +128,7 @@ pub +content+flow-entries+flow-entry+group+item+key+lined-entries+lined-entry+li
     (λ t. flow-entry-lts.spec (flow-entry-claims t)
     (flow-entry-at t)
     flow-entry.Post
+    (flow-entry-spot-at-requires t)
     (flow-entry-key-requires t)
     (flow-entry-byte-requires t)
     (flow-entry-item-requires t)
@@ -163,7 +164,6 @@ pub +content+flow-entries+flow-entry+group+item+key+lined-entries+lined-entry+li
     (λ t. key-lts.spec (key-claims t)
     (key-at t)
     key.Post
-    (key-spot-at-requires t)
     (key-put-props-requires t)
     (key-with-key-requires t)
     (key-content-requires t)

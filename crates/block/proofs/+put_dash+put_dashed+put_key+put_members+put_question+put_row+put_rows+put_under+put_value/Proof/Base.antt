@@ -50,13 +50,13 @@ use Rattle.pen.proofs.Writer.byte.Reads as byte-reads
 use Rattle.spot.proofs.spot_at.Reads as spot-at-reads
 
 abbrev pub μ-put-dash : Measures 3 put-dash-kinds.ps ℕ
-μ-put-dash κs a = 16 * (length (a .1 .0 .now) - a .1 .1 .1 .1 .1 .0 .at) + 10
+μ-put-dash κs a = 16 * (length (a .1 .0 .now) - a .1 .1 .1 .1 .1 .1 .0 .at) + 10
 
 abbrev pub μ-put-dashed : Measures 3 put-dashed-kinds.ps ℕ
 μ-put-dashed κs a = 16 * (length (a .1 .0 .now) - a .1 .1 .1 .1 .1 .0 .place) + 9
 
 abbrev pub μ-put-key : Measures 3 put-key-kinds.ps ℕ
-μ-put-key κs a = 16 * (length (a .1 .0 .now) - a .1 .1 .1 .1 .1 .0 .at) + 10
+μ-put-key κs a = 16 * (length (a .1 .0 .now) - a .1 .1 .1 .1 .1 .0 .place) + 10
 
 abbrev pub μ-put-members : Measures 3 put-members-kinds.ps ℕ
 μ-put-members κs a = 16 * (length (a .1 .0 .now) - a .1 .1 .1 .1 .1 .0 .next .at) + 13
@@ -146,8 +146,6 @@ put-value-below t =
 
 abbrev pub put-dash-claims : ℕ → put-dash-lts.Claims
 put-dash-claims t = (
-  spot-at-reads.Asked,
-  spot-at-reads.Learnt,
   byte-reads.Asked,
   byte-reads.Learnt,
   is-included-reads.Asked,
@@ -180,8 +178,6 @@ put-dashed-claims t = (
 
 abbrev pub put-key-claims : ℕ → put-key-lts.Claims
 put-key-claims t = (
-  spot-at-reads.Asked,
-  spot-at-reads.Learnt,
   is-explicit-reads.Asked,
   is-explicit-reads.Learnt,
   byte-reads.Asked,
@@ -218,6 +214,8 @@ put-question-claims t = (
 
 abbrev pub put-row-claims : ℕ → put-row-lts.Claims
 put-row-claims t = (
+  spot-at-reads.Asked,
+  spot-at-reads.Learnt,
   put-before-reads.Asked,
   put-before-reads.Learnt,
   put-key-below t,

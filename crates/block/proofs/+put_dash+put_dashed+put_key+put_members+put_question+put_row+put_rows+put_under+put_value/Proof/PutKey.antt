@@ -1,8 +1,8 @@
 use native.Mathlib.Omega.{arith}
 use Rattle.definition.specs.Pen.{mark}
 use Rattle.parts.specs.Draws.{of-byte}
-use Rattle.layout.specs.Calm.{calm-drawn, calm-after, calm-further}
-use Rattle.block.proofs.Laws.{spot-good, few-spot, key-explicit, key-inline}
+use Rattle.layout.specs.Calm.{calm-drawn, calm-after}
+use Rattle.block.proofs.Laws.{key-explicit, key-inline}
 use borrow.Author.Needs.{needs}
 use Prim.Native.Nat.{ℕ, _<_}
 use Rattle.block.proofs.put_dash.Reads as put-dash
@@ -52,10 +52,6 @@ use Rattle.pen.proofs.Writer.byte.Reads as byte-reads
 use Rattle.spot.proofs.spot_at.Reads as spot-at-reads
 use Rattle.block.proofs.+put_dash+put_dashed+put_key+put_members+put_question+put_row+put_rows+put_under+put_value.Proof.Base.{μ-put-dash, μ-put-dashed, μ-put-key, μ-put-members, μ-put-question, μ-put-row, μ-put-rows, μ-put-under, μ-put-value, put-dash-at, put-dash-below, put-dashed-at, put-dashed-below, put-key-at, put-key-below, put-members-at, put-members-below, put-question-at, put-question-below, put-row-at, put-row-below, put-rows-at, put-rows-below, put-under-at, put-under-below, put-value-at, put-value-below, put-dash-claims, put-dashed-claims, put-key-claims, put-members-claims, put-question-claims, put-row-claims, put-rows-claims, put-under-claims, put-value-claims}
 
--- src/lib.rt:166:9
-pub put-key-spot-at-requires : (t : ℕ) → put-key-lts.Need-spot-at-requires (put-key-claims t) (put-key-at t) put-key.Post
-put-key-spot-at-requires t c κs = search needs
-
 -- src/lib.rt:169:8
 pub put-key-is-explicit-requires : (t : ℕ) → put-key-lts.Need-is-explicit-requires (put-key-claims t) (put-key-at t) put-key.Post
 put-key-is-explicit-requires t c κs = search needs
@@ -66,11 +62,11 @@ put-key-byte-requires t c κs = search needs
 
 -- src/lib.rt:171:13
 pub put-key-put-question-requires : (t : ℕ) → put-key-lts.Need-put-question-requires (put-key-claims t) (put-key-at t) put-key.Post
-put-key-put-question-requires t c κs = let q = (c .before .before .before .before .before .before .before .before .before .before .before .before .pre) .0 in let p = (c .before .before .before .before .before .before .before .before .before .before .before .before .pre) .1 in let r = p .ready in let g = spot-good _ _ _ (r .here) (r .deck-small) (c .before .before .before .before .before .before .before .before .spot-at .ensures) in (omega (arith, q, g .1, g .2), (calm-further (calm-drawn p (of-byte mark _ (c .before .before .before .byte .ensures))) _ (g .1) (g .2), g .0, few-spot _ (λ k. omega (arith, c .before .before .before .before .before .before .before .before .before .before .before .shared-slice-known .given k)) _ _ (r .here) (c .before .before .before .before .before .before .before .before .spot-at .ensures)))
+put-key-put-question-requires t c κs = let q = (c .before .before .before .before .before .before .before .before .before .before .before .pre) .0 in let p = (c .before .before .before .before .before .before .before .before .before .before .before .pre) .1 in (omega (arith, q), (calm-drawn (p .0) (of-byte mark _ (c .before .before .before .byte .ensures)), p .1, p .2))
 
 -- src/lib.rt:172:9
 pub put-key-with-colon-requires : (t : ℕ) → put-key-lts.Need-with-colon-requires (put-key-claims t) (put-key-at t) put-key.Post
-put-key-with-colon-requires t c κs = let z = calm-after (calm-drawn ((c .before .before .before .before .before .before .before .before .before .before .before .before .before .before .before .before .pre) .1) (of-byte mark _ (c .before .before .before .before .before .before .before .byte .ensures))) _ _ _ (c .before .before .before .put-question .ensures .drawn) in omega (arith, z .ready .out-small)
+put-key-with-colon-requires t c κs = let z = calm-after (calm-drawn ((c .before .before .before .before .before .before .before .before .before .before .before .before .before .before .before .pre) .1 .0) (of-byte mark _ (c .before .before .before .before .before .before .before .byte .ensures))) _ _ _ (c .before .before .before .put-question .ensures .drawn) in omega (arith, z .ready .out-small)
 
 -- src/lib.rt:172:9
 pub put-key-same-length : (t : ℕ) → put-key-lts.Need-same-length (put-key-claims t) (put-key-at t) put-key.Post
@@ -78,11 +74,11 @@ put-key-same-length t c = search needs
 
 -- src/lib.rt:172:9
 pub put-key-returns : (t : ℕ) → put-key-lts.Need-returns (put-key-claims t) (put-key-at t) put-key.Post
-put-key-returns t c = let r = (c .before .before .before .before .before .before .before .before .before .before .before .before .before .before .before .before .before .before .before .pre) .1 .ready in key-explicit _ _ _ _ _ _ _ _ _ _ (r .here) (r .deck-small) (c .before .before .before .before .before .before .before .before .before .before .before .before .before .before .before .spot-at .ensures) (c .before .before .before .before .before .before .before .before .before .before .before .before .before .is-explicit .ensures) (c .before .before .before .before .before .before .before .before .before .before .before .before .if1 .taken) (c .before .before .before .before .before .before .before .before .before .before .byte .ensures) (c .before .before .before .before .before .before .put-question .ensures) (c .before .before .with-colon .ensures)
+put-key-returns t c = key-explicit _ _ _ _ _ _ _ _ _ (c .before .before .before .before .before .before .before .before .before .before .before .before .before .is-explicit .ensures) (c .before .before .before .before .before .before .before .before .before .before .before .before .if1 .taken) (c .before .before .before .before .before .before .before .before .before .before .byte .ensures) (c .before .before .before .before .before .before .put-question .ensures) (c .before .before .with-colon .ensures)
 
 -- src/lib.rt:174:5
 pub put-key-key-requires : (t : ℕ) → put-key-lts.Need-key-requires (put-key-claims t) (put-key-at t) put-key.Post
-put-key-key-requires t c κs = search needs
+put-key-key-requires t c κs = let p = (c .before .before .before .before .before .before .before .pre) .1 in (p .0 .ready, p .1, p .2)
 
 -- src/lib.rt:153:1
 pub put-key-same-length-2 : (t : ℕ) → put-key-lts.Need-same-length-2 (put-key-claims t) (put-key-at t) put-key.Post
@@ -90,4 +86,4 @@ put-key-same-length-2 t c = search needs
 
 -- src/lib.rt:153:1
 pub put-key-returns-2 : (t : ℕ) → put-key-lts.Need-returns-2 (put-key-claims t) (put-key-at t) put-key.Post
-put-key-returns-2 t c = let p = (c .before .before .before .before .before .before .before .before .before .before .before .pre) .1 in key-inline _ _ _ _ _ _ _ _ _ _ (p .ready .here) (c .before .before .before .before .before .before .before .spot-at .ensures) (c .before .before .before .before .before .is-explicit .ensures) (c .before .before .before .before .if1 .left) (p .flow) (c .before .before .key .ensures)
+put-key-returns-2 t c = key-inline _ _ _ _ _ _ _ _ _ (c .before .before .before .before .before .is-explicit .ensures) (c .before .before .before .before .if1 .left) ((c .before .before .before .before .before .before .before .before .before .before .pre) .1 .0 .flow) (c .before .before .key .ensures)

@@ -49,7 +49,7 @@ use Rattle.joints.proofs.put_lined_before.Reads as put-lined-before-reads
 use Rattle.joints.proofs.with_flow.Reads as with-flow-reads
 use Rattle.joints.proofs.with_key.Reads as with-key-reads
 use Rattle.parts.proofs.is_marked.Reads as is-marked-reads
-use Rattle.parts.proofs.put_props.Reads as put-props-reads
+use Rattle.joints.proofs.put_props.Reads as put-props-reads
 use Rattle.pen.proofs.Writer.byte.Reads as byte-reads
 use Rattle.pen.proofs.Writer.spaces.Reads as spaces-reads
 use Rattle.spot.proofs.spot_at.Reads as spot-at-reads
@@ -70,7 +70,7 @@ abbrev pub μ-item : Measures 3 item-kinds.ps ℕ
 μ-item κs a = 16 * (length (a .1 .0 .now) - a .1 .1 .1 .1 .1 .0 .at) + 8
 
 abbrev pub μ-key : Measures 3 key-kinds.ps ℕ
-μ-key κs a = 16 * (length (a .1 .0 .now) - a .1 .1 .1 .1 .1 .0 .at) + 8
+μ-key κs a = 16 * (length (a .1 .0 .now) - a .1 .1 .1 .1 .1 .0 .place) + 8
 
 abbrev pub μ-lined-entries : Measures 3 lined-entries-kinds.ps ℕ
 μ-lined-entries κs a = 16 * (length (a .1 .0 .now) - a .1 .1 .1 .1 .1 .1 .1 .0 .at) + 11
@@ -188,6 +188,8 @@ flow-entries-claims t = (
 
 abbrev pub flow-entry-claims : ℕ → flow-entry-lts.Claims
 flow-entry-claims t = (
+  spot-at-reads.Asked,
+  spot-at-reads.Learnt,
   key-below t,
   key.Post,
   byte-reads.Asked,
@@ -224,8 +226,6 @@ item-claims t = (
 
 abbrev pub key-claims : ℕ → key-lts.Claims
 key-claims t = (
-  spot-at-reads.Asked,
-  spot-at-reads.Learnt,
   put-props-reads.Asked,
   put-props-reads.Learnt,
   with-key-reads.Asked,

@@ -1,6 +1,6 @@
 use native.Mathlib.Omega.{arith}
 use Rattle.flow.specs.Ready.{after, further}
-use Rattle.flow.proofs.Laws.{pair-emits, item-emits, after-byte}
+use Rattle.flow.proofs.Laws.{spot-good, few-spot, key-there, pair-emits, item-emits, after-byte}
 use borrow.Author.Needs.{needs}
 use Prim.Native.Nat.{ℕ, _<_}
 use Rattle.flow.proofs.content.Reads as content
@@ -49,15 +49,19 @@ use Rattle.joints.proofs.put_lined_before.Reads as put-lined-before-reads
 use Rattle.joints.proofs.with_flow.Reads as with-flow-reads
 use Rattle.joints.proofs.with_key.Reads as with-key-reads
 use Rattle.parts.proofs.is_marked.Reads as is-marked-reads
-use Rattle.parts.proofs.put_props.Reads as put-props-reads
+use Rattle.joints.proofs.put_props.Reads as put-props-reads
 use Rattle.pen.proofs.Writer.byte.Reads as byte-reads
 use Rattle.pen.proofs.Writer.spaces.Reads as spaces-reads
 use Rattle.spot.proofs.spot_at.Reads as spot-at-reads
 use Rattle.flow.proofs.+content+flow_entries+flow_entry+group+item+key+lined_entries+lined_entry+lined_group+plain_group.Proof.Base.{μ-content, μ-flow-entries, μ-flow-entry, μ-group, μ-item, μ-key, μ-lined-entries, μ-lined-entry, μ-lined-group, μ-plain-group, content-at, content-below, flow-entries-at, flow-entries-below, flow-entry-at, flow-entry-below, group-at, group-below, item-at, item-below, key-at, key-below, lined-entries-at, lined-entries-below, lined-entry-at, lined-entry-below, lined-group-at, lined-group-below, plain-group-at, plain-group-below, content-claims, flow-entries-claims, flow-entry-claims, group-claims, item-claims, key-claims, lined-entries-claims, lined-entry-claims, lined-group-claims, plain-group-claims}
 
 -- src/lib.rt:291:13
+pub flow-entry-spot-at-requires : (t : ℕ) → flow-entry-lts.Need-spot-at-requires (flow-entry-claims t) (flow-entry-at t) flow-entry.Post
+flow-entry-spot-at-requires t c κs = search needs
+
+-- src/lib.rt:291:13
 pub flow-entry-key-requires : (t : ℕ) → flow-entry-lts.Need-key-requires (flow-entry-claims t) (flow-entry-at t) flow-entry.Post
-flow-entry-key-requires t c κs = search needs
+flow-entry-key-requires t c κs = let q = (c .before .before .before .before .before .before .pre) .0 in let r = (c .before .before .before .before .before .before .pre) .1 in let g = spot-good _ _ _ (r .here) (r .deck-small) (c .before .spot-at .ensures) in (omega (arith, q, g .1, g .2), (further r _ (g .1) (g .2), g .0, few-spot _ (λ k. omega (arith, c .before .before .before .before .before .shared-slice-known .given k)) _ _ (r .here) (c .before .spot-at .ensures)))
 
 -- src/lib.rt:294:13
 pub flow-entry-byte-requires : (t : ℕ) → flow-entry-lts.Need-byte-requires (flow-entry-claims t) (flow-entry-at t) flow-entry.Post
@@ -65,7 +69,7 @@ flow-entry-byte-requires t c κs = search needs
 
 -- src/lib.rt:295:9
 pub flow-entry-item-requires : (t : ℕ) → flow-entry-lts.Need-item-requires (flow-entry-claims t) (flow-entry-at t) flow-entry.Post
-flow-entry-item-requires t c κs = let r = (c .before .before .before .before .before .before .before .before .before .before .before .before .before .before .before .pre) .1 in let e = c .before .before .before .before .before .before .before .before .before .key .ensures in let q = (c .before .before .before .before .before .before .before .before .before .before .before .before .before .before .before .pre) .0 in (omega (arith, q, e .onward, e .within), further (after-byte _ _ _ _ (after r _ _ _ (e .drawn)) (c .before .before .before .byte .ensures)) _ (e .onward) (e .within))
+flow-entry-item-requires t c κs = let q = (c .before .before .before .before .before .before .before .before .before .before .before .before .before .before .before .before .pre) .0 in let r = (c .before .before .before .before .before .before .before .before .before .before .before .before .before .before .before .before .pre) .1 in let e = key-there _ _ _ _ _ _ _ _ _ (r .here) (r .deck-small) (c .before .before .before .before .before .before .before .before .before .before .before .spot-at .ensures) (c .before .before .before .before .before .before .before .before .before .key .ensures) in (omega (arith, q, e .onward, e .within), further (after-byte _ _ _ _ (after r _ _ _ (e .drawn)) (c .before .before .before .byte .ensures)) _ (e .onward) (e .within))
 
 -- src/lib.rt:295:9
 pub flow-entry-same-length : (t : ℕ) → flow-entry-lts.Need-same-length (flow-entry-claims t) (flow-entry-at t) flow-entry.Post
@@ -73,7 +77,7 @@ flow-entry-same-length t c = search needs
 
 -- src/lib.rt:295:9
 pub flow-entry-returns : (t : ℕ) → flow-entry-lts.Need-returns (flow-entry-claims t) (flow-entry-at t) flow-entry.Post
-flow-entry-returns t c = pair-emits _ _ _ _ _ _ _ _ (c .before .before .before .before .before .before .before .before .before .before .before .before .before .before .if1 .taken) (c .before .before .before .before .before .before .before .before .before .before .before .before .key .ensures) (c .before .before .before .before .before .before .byte .ensures) (c .before .before .item .ensures)
+flow-entry-returns t c = let r = (c .before .before .before .before .before .before .before .before .before .before .before .before .before .before .before .before .before .before .before .pre) .1 in pair-emits _ _ _ _ _ _ _ _ (c .before .before .before .before .before .before .before .before .before .before .before .before .before .before .before .if1 .taken) (key-there _ _ _ _ _ _ _ _ _ (r .here) (r .deck-small) (c .before .before .before .before .before .before .before .before .before .before .before .before .before .before .spot-at .ensures) (c .before .before .before .before .before .before .before .before .before .before .before .before .key .ensures)) (c .before .before .before .before .before .before .byte .ensures) (c .before .before .item .ensures)
 
 -- src/lib.rt:297:5
 pub flow-entry-item-requires-2 : (t : ℕ) → flow-entry-lts.Need-item-requires-2 (flow-entry-claims t) (flow-entry-at t) flow-entry.Post

@@ -1,8 +1,8 @@
-use Rattle.flow.proofs.Laws.{spot-good, few-spot, key-whole-is, keyed-at}
+use Rattle.flow.proofs.Laws.{key-whole-is, keyed-at}
 use native.Mathlib.Omega.{arith}
 use mathlib.Core.Path.{refl, ap}
 use Rattle.pen.specs.Pen.{pen}
-use Rattle.flow.specs.Ready.{after-drawn, further, keyed, after}
+use Rattle.flow.specs.Ready.{after-drawn}
 use borrow.Author.Needs.{needs}
 use Prim.Native.Nat.{ℕ, _<_}
 use Rattle.flow.proofs.content.Reads as content
@@ -51,15 +51,11 @@ use Rattle.joints.proofs.put_lined_before.Reads as put-lined-before-reads
 use Rattle.joints.proofs.with_flow.Reads as with-flow-reads
 use Rattle.joints.proofs.with_key.Reads as with-key-reads
 use Rattle.parts.proofs.is_marked.Reads as is-marked-reads
-use Rattle.parts.proofs.put_props.Reads as put-props-reads
+use Rattle.joints.proofs.put_props.Reads as put-props-reads
 use Rattle.pen.proofs.Writer.byte.Reads as byte-reads
 use Rattle.pen.proofs.Writer.spaces.Reads as spaces-reads
 use Rattle.spot.proofs.spot_at.Reads as spot-at-reads
 use Rattle.flow.proofs.+content+flow_entries+flow_entry+group+item+key+lined_entries+lined_entry+lined_group+plain_group.Proof.Base.{μ-content, μ-flow-entries, μ-flow-entry, μ-group, μ-item, μ-key, μ-lined-entries, μ-lined-entry, μ-lined-group, μ-plain-group, content-at, content-below, flow-entries-at, flow-entries-below, flow-entry-at, flow-entry-below, group-at, group-below, item-at, item-below, key-at, key-below, lined-entries-at, lined-entries-below, lined-entry-at, lined-entry-below, lined-group-at, lined-group-below, plain-group-at, plain-group-below, content-claims, flow-entries-claims, flow-entry-claims, group-claims, item-claims, key-claims, lined-entries-claims, lined-entry-claims, lined-group-claims, plain-group-claims}
-
--- src/lib.rt:313:9
-pub key-spot-at-requires : (t : ℕ) → key-lts.Need-spot-at-requires (key-claims t) (key-at t) key.Post
-key-spot-at-requires t c κs = search needs
 
 -- src/lib.rt:316:9
 pub key-put-props-requires : (t : ℕ) → key-lts.Need-put-props-requires (key-claims t) (key-at t) key.Post
@@ -71,7 +67,7 @@ key-with-key-requires t c κs = search needs
 
 -- src/lib.rt:318:9
 pub key-content-requires : (t : ℕ) → key-lts.Need-content-requires (key-claims t) (key-at t) key.Post
-key-content-requires t c κs = let r = (c .before .before .before .before .before .before .before .before .before .before .before .pre) .1 in let g = spot-good _ _ _ (r .here) (r .deck-small) (c .before .before .before .before .before .before .before .spot-at .ensures) in let q = (c .before .before .before .before .before .before .before .before .before .before .before .pre) .0 in (omega (arith, q, g .1, g .2), (keyed-at _ _ _ _ _ _ _ (c .before .with-key .ensures) (further (after-drawn r (c .before .before .before .before .put-props .ensures)) _ (g .1) (g .2)), g .0, few-spot _ (λ k. omega (arith, c .before .before .before .before .before .before .before .before .before .before .shared-slice-known .given k)) _ _ (r .here) (c .before .before .before .before .before .before .before .spot-at .ensures)))
+key-content-requires t c κs = let q = (c .before .before .before .before .before .before .before .before .before .before .pre) .0 in let p = (c .before .before .before .before .before .before .before .before .before .before .pre) .1 in (omega (arith, q), (keyed-at _ _ _ _ _ _ _ (c .before .with-key .ensures) (after-drawn (p .0) (c .before .before .before .before .put-props .ensures)), p .1, p .2))
 
 -- src/lib.rt:321:9
 pub key-with-key-requires-2 : (t : ℕ) → key-lts.Need-with-key-requires-2 (key-claims t) (key-at t) key.Post
@@ -79,7 +75,7 @@ key-with-key-requires-2 t c κs = search needs
 
 -- src/lib.rt:323:9
 pub key-put-colon-requires : (t : ℕ) → key-lts.Need-put-colon-requires (key-claims t) (key-at t) key.Post
-key-put-colon-requires t c κs = let r = (c .before .before .before .before .before .before .before .before .before .before .before .before .before .before .before .before .before .before .pre) .1 in let l = r .out-small in let a = c .before .before .before .before .before .before .before .before .before .before .before .put-props .kept in let b = c .before .before .before .before .before .before .content .kept in search needs
+key-put-colon-requires t c κs = let l = (c .before .before .before .before .before .before .before .before .before .before .before .before .before .before .before .before .before .pre) .1 .0 .out-small in let a = c .before .before .before .before .before .before .before .before .before .before .before .put-props .kept in let b = c .before .before .before .before .before .before .content .kept in search needs
 
 -- src/lib.rt:301:1
 pub key-same-length : (t : ℕ) → key-lts.Need-same-length (key-claims t) (key-at t) key.Post
@@ -87,4 +83,4 @@ key-same-length t c = search needs
 
 -- src/lib.rt:301:1
 pub key-returns : (t : ℕ) → key-lts.Need-returns (key-claims t) (key-at t) key.Post
-key-returns t c = let r = (c .before .before .before .before .before .before .before .before .before .before .before .before .before .before .before .before .before .before .before .before .before .pre) .1 in key-whole-is _ _ _ _ _ _ _ _ _ _ _ _ _ _ _ (r .here) (r .deck-small) (c .before .before .before .before .before .before .before .before .before .before .before .before .before .before .before .before .before .spot-at .ensures) (c .before .before .before .before .before .before .before .before .before .before .before .before .before .before .put-props .ensures) (c .before .before .before .before .before .before .before .before .before .before .before .with-key .ensures) (c .before .before .before .before .before .before .before .before .before .content .ensures) (c .before .before .before .before .with-key2 .ensures) (c .before .before .put-colon .ensures)
+key-returns t c = key-whole-is _ _ _ _ _ _ _ _ _ _ _ _ _ _ (c .before .before .before .before .before .before .before .before .before .before .before .before .before .before .put-props .ensures) (c .before .before .before .before .before .before .before .before .before .before .before .with-key .ensures) (c .before .before .before .before .before .before .before .before .before .content .ensures) (c .before .before .before .before .with-key2 .ensures) (c .before .before .put-colon .ensures)
