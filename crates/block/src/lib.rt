@@ -35,11 +35,10 @@ fn put_opening(
     requires { ⌜ (length (now out) < 2 ^ 62) × (x .place < 2 ^ 62) × Short (x .lead) ⌝ }
     ensures { λ r. ⌜ Draws (openingOf (now (deck .entry)) (now (pool .entry)) dashed x j) (pen w (now (out .entry))) (pen r (now (out .exit))) ⌝ }
 {
-    let lead = x.lead;
     if dashed {
-        return parts::put_dash_block(w, deck, pool, out, x.place, lead, j);
+        return parts::put_dash_block(w, deck, pool, out, x.place, x.lead, j);
     }
-    parts::put_colon_block(w, deck, pool, out, x.place, lead, j)
+    parts::put_colon_block(w, deck, pool, out, x.place, x.lead, j)
 }
 
 // The foot comments of a node after what was emitted of it.
@@ -47,10 +46,8 @@ fn with_foots(e: Emitted, deck: &[u8], pool: &[u8], out: &mut [u8], x: Spot, k: 
     requires { ⌜ (length (now out) < 2 ^ 62) × Short (x .lead) ⌝ }
     ensures { λ r. ⌜ Footed (now (deck .entry)) (now (pool .entry)) x k (pen (e .w) (now (out .entry))) (pen (r .w) (now (out .exit))) (e .next) (r .next) ⌝ }
 {
-    let lead = x.lead;
-    let v = e.w;
     let next = e.next;
-    let w = parts::put_repeated(v, deck, pool, out, lead, Entries::Foots, k);
+    let w = parts::put_repeated(e.w, deck, pool, out, x.lead, Entries::Foots, k);
     Emitted { w, next }
 }
 
@@ -59,9 +56,8 @@ fn with_colon(e: Emitted, out: &mut [u8], i: usize) -> Emitted
     requires { ⌜ length (now out) < 2 ^ 62 ⌝ }
     ensures { λ r. ⌜ Coloned i (pen (e .w) (now (out .entry))) (pen (r .w) (now (out .exit))) (e .next) (r .next) ⌝ }
 {
-    let v = e.w;
     let next = e.next;
-    let v1 = v.spaces(out, i);
+    let v1 = e.w.spaces(out, i);
     let w = v1.byte(out, b':');
     Emitted { w, next }
 }
@@ -140,13 +136,11 @@ fn put_row(
     ensures { λ r. ⌜ Emits settings (rowOf settings (now (deck .entry)) (now (pool .entry)) i pairs begin first c) (pen w (now (out .entry))) (pen (r .w) (now (out .exit))) (c .at) (entryEnd (now (deck .entry)) (now (pool .entry)) pairs c) (r .next) (length (now (deck .entry))) ⌝ }
 {
     let x = spot::spot_at(deck, c);
-    let lead = x.lead;
-    let w1 = layout::put_before(w, deck, pool, out, pairs, lead, i, begin);
+    let w1 = layout::put_before(w, deck, pool, out, pairs, x.lead, i, begin);
     if pairs {
         let e = put_key(w1, deck, pool, out, settings, x, i, first);
-        let v = e.w;
         let next = e.next;
-        return put_value(v, deck, pool, out, settings, next, i);
+        return put_value(e.w, deck, pool, out, settings, next, i);
     }
     put_dash(w1, deck, pool, out, settings, x, c, i)
 }
@@ -165,9 +159,8 @@ fn put_key(
     requires { ⌜ (Calm settings (now deck) (now pool) (pen w (now out)) (x .place) i) × Good (now deck) x × (countIn (x .body) < 65536) ⌝ }
     ensures { λ r. ⌜ Emits settings (keyPart settings i first (nodeIn (now (deck .entry)) (now (pool .entry)) x)) (pen w (now (out .entry))) (pen (r .w) (now (out .exit))) (x .place) (endIn (now (deck .entry)) (now (pool .entry)) x) (r .next) (length (now (deck .entry))) ⌝ }
 {
-    let lead = x.lead;
     let body = x.body;
-    if choices::is_explicit(first, lead, body) {
+    if choices::is_explicit(first, x.lead, body) {
         let w1 = w.byte(out, b'?');
         let e = put_question(w1, deck, pool, out, settings, x, i);
         return with_colon(e, out, i);
@@ -188,11 +181,10 @@ fn put_question(
     requires { ⌜ (Calm settings (now deck) (now pool) (pen w (now out)) (x .place) i) × Good (now deck) x × (countIn (x .body) < 65536) ⌝ }
     ensures { λ r. ⌜ Emits settings (keyBelow settings i (nodeIn (now (deck .entry)) (now (pool .entry)) x)) (pen w (now (out .entry))) (pen (r .w) (now (out .exit))) (x .place) (endIn (now (deck .entry)) (now (pool .entry)) x) (r .next) (length (now (deck .entry))) ⌝ }
 {
-    let lead = x.lead;
     let body = x.body;
     let j = i + choices::step_of(settings);
     if choices::is_block(body) {
-        let w1 = parts::put_props_compact(w, pool, out, lead);
+        let w1 = parts::put_props_compact(w, pool, out, x.lead);
         let w2 = w1.byte(out, b'\n');
         return put_members(w2, deck, pool, out, settings, x, j, true);
     }
@@ -213,13 +205,12 @@ fn put_value(
     ensures { λ r. ⌜ Emits settings (value settings i (nodeAt (now (deck .entry)) (now (pool .entry)) c)) (pen w (now (out .entry))) (pen (r .w) (now (out .exit))) (c .at) (nextAt (now (deck .entry)) (now (pool .entry)) c) (r .next) (length (now (deck .entry))) ⌝ }
 {
     let x = spot::spot_at(deck, c);
-    let lead = x.lead;
     let body = x.body;
-    if choices::is_included(lead.origin) {
+    if choices::is_included(x.lead.origin) {
         return layout::put_include(w, deck, pool, out, settings, x, c);
     }
     if choices::is_block(body) {
-        let j = choices::value_column(settings, lead.lines, lead.tag, i, body);
+        let j = choices::value_column(settings, x.lead.lines, x.lead.tag, i, body);
         return put_under(w, deck, pool, out, settings, x, j, j, false);
     }
     let j = i + choices::step_of(settings);
@@ -240,10 +231,9 @@ fn put_dash(
     requires { ⌜ (Calm settings (now deck) (now pool) (pen w (now out)) (c .at) i) × (x ≡ spotAt (now deck) c) ⌝ }
     ensures { λ r. ⌜ Emits settings (dash settings i (nodeAt (now (deck .entry)) (now (pool .entry)) c)) (pen w (now (out .entry))) (pen (r .w) (now (out .exit))) (c .at) (nextAt (now (deck .entry)) (now (pool .entry)) c) (r .next) (length (now (deck .entry))) ⌝ }
 {
-    let lead = x.lead;
     let body = x.body;
     let w1 = w.byte(out, b'-');
-    if choices::is_included(lead.origin) {
+    if choices::is_included(x.lead.origin) {
         return layout::put_include(w1, deck, pool, out, settings, x, c);
     }
     if choices::is_block(body) {
@@ -265,14 +255,13 @@ fn put_dashed(
     requires { ⌜ (Calm settings (now deck) (now pool) (pen w (now out)) (x .place) i) × Good (now deck) x × (countIn (x .body) < 65536) × (blockIn (x .body) ≡ true) ⌝ }
     ensures { λ r. ⌜ Emits settings (dashIn settings (now (deck .entry)) (now (pool .entry)) i x) (pen w (now (out .entry))) (pen (r .w) (now (out .exit))) (x .place) (endIn (now (deck .entry)) (now (pool .entry)) x) (r .next) (length (now (deck .entry))) ⌝ }
 {
-    let lead = x.lead;
     let body = x.body;
-    if choices::on_dash_line(lead.lines, lead.tag, lead.anchor, lead.remark, body) {
+    if choices::on_dash_line(x.lead.lines, x.lead.tag, x.lead.anchor, x.lead.remark, body) {
         let w1 = w.byte(out, b' ');
         let e = put_members(w1, deck, pool, out, settings, x, i + 2, false);
         return with_foots(e, deck, pool, out, x, i + 2);
     }
-    let j = choices::item_column(settings, lead.tag, lead.anchor, i, body);
+    let j = choices::item_column(settings, x.lead.tag, x.lead.anchor, i, body);
     put_under(w, deck, pool, out, settings, x, j, i + 2, true)
 }
 

@@ -39,9 +39,8 @@ fn commented(deck: &[u8], pairs: bool, c: Cursor, n: usize) -> bool
 fn back(e: Emitted, flow: usize) -> Emitted
     ensures { λ r. ⌜ (r .w ≡ withFlow flow (pen (e .w) []) .w) × (r .next ≡ e .next) ⌝ }
 {
-    let v = e.w;
     let next = e.next;
-    let w = joints::with_flow(v, flow);
+    let w = joints::with_flow(e.w, flow);
     Emitted { w, next }
 }
 
@@ -58,17 +57,15 @@ pub fn content(
     requires { ⌜ (Ready settings (now deck) (now pool) (pen w (now out)) (x .place) i) × Good (now deck) x × (countIn (x .body) < 65536) ⌝ }
     ensures { λ r. ⌜ Emits settings (contentOf settings (on (w .flow)) (on (w .key)) i (x .place) (keptIn (now (deck .entry)) (now (pool .entry)) x) (broughtIn (now (deck .entry)) (now (pool .entry)) x) (kindIn (now (deck .entry)) (now (pool .entry)) x)) (pen w (now (out .entry))) (pen (r .w) (now (out .exit))) (x .place) (endIn (now (deck .entry)) (now (pool .entry)) x) (r .next) (length (now (deck .entry))) ⌝ }
 {
-    let lead = x.lead;
-    let lines = lead.lines;
     let body = x.body;
     let next = x.next;
     match body {
         Body::Null => {
-            let v = atoms::put_null(w, out, settings, lines);
+            let v = atoms::put_null(w, out, settings, x.lead.lines);
             Emitted { w: v, next }
         }
         Body::Scalar(told) => {
-            let modified = parts::is_marked(lines.marks, 1);
+            let modified = parts::is_marked(x.lead.lines.marks, 1);
             let v = atoms::put_words(
                 w,
                 pool,
@@ -76,8 +73,8 @@ pub fn content(
                 settings,
                 i,
                 x.place,
-                lead.remark,
-                lead.raw,
+                x.lead.remark,
+                x.lead.raw,
                 modified,
                 told,
             );
@@ -160,9 +157,8 @@ fn lined_group(
     let w1 = w.byte(out, joints::opening_of(pairs));
     let w2 = w1.byte(out, b'\n');
     let e = lined_entries(w2, deck, pool, out, settings, pairs, n, c, j);
-    let v = e.w;
     let next = e.next;
-    let v1 = v.spaces(out, i);
+    let v1 = e.w.spaces(out, i);
     let v2 = v1.byte(out, joints::closing_of(pairs));
     Emitted { w: v2, next }
 }
@@ -184,9 +180,8 @@ fn plain_group(
 {
     let w1 = w.byte(out, joints::opening_of(pairs));
     let e = flow_entries(w1, deck, pool, out, settings, pairs, n, c, i);
-    let v = e.w;
     let next = e.next;
-    let v1 = v.byte(out, joints::closing_of(pairs));
+    let v1 = e.w.byte(out, joints::closing_of(pairs));
     Emitted { w: v1, next }
 }
 
@@ -264,12 +259,10 @@ fn lined_entry(
 {
     let end = joints::last_of(deck, pairs, c);
     let x = spot::spot_at(deck, end);
-    let lead = x.lead;
     let w1 = joints::put_lined_before(w, deck, pool, out, pairs, c, end, i);
     let e = flow_entry(w1, deck, pool, out, settings, pairs, c, i);
-    let v = e.w;
     let next = e.next;
-    let v1 = joints::put_lined_after(v, pool, out, last, x.place, lead.remark);
+    let v1 = joints::put_lined_after(e.w, pool, out, last, x.place, x.lead.remark);
     Emitted { w: v1, next }
 }
 
@@ -290,9 +283,8 @@ fn flow_entry(
     if pairs {
         let x = spot::spot_at(deck, c);
         let e = key(w, deck, pool, out, settings, x, i);
-        let v = e.w;
         let next = e.next;
-        let v1 = v.byte(out, b' ');
+        let v1 = e.w.byte(out, b' ');
         return item(v1, deck, pool, out, settings, next, i);
     }
     item(w, deck, pool, out, settings, c, i)
@@ -312,13 +304,11 @@ pub fn key(
     ensures { λ r. ⌜ Emits settings (keyOf (now (deck .entry)) (now (pool .entry)) settings (on (w .flow)) (on (w .key)) i (nodeIn (now (deck .entry)) (now (pool .entry)) x)) (pen w (now (out .entry))) (pen (r .w) (now (out .exit))) (x .place) (endIn (now (deck .entry)) (now (pool .entry)) x) (r .next) (length (now (deck .entry))) ⌝ }
 {
     let mark = w.key;
-    let lead = x.lead;
-    let w1 = joints::put_props(w, pool, out, lead);
+    let w1 = joints::put_props(w, pool, out, x.lead);
     let w2 = joints::with_key(w1, 1);
     let e = content(w2, deck, pool, out, settings, x, i);
-    let u = e.w;
     let next = e.next;
-    let v = joints::with_key(u, mark);
+    let v = joints::with_key(e.w, mark);
     let body = x.body;
     let v1 = joints::put_colon(v, out, body);
     Emitted { w: v1, next }
@@ -338,7 +328,6 @@ pub fn item(
     ensures { λ r. ⌜ Emits settings (itemOf (now (deck .entry)) (now (pool .entry)) settings (on (w .flow)) (on (w .key)) i (nodeAt (now (deck .entry)) (now (pool .entry)) c)) (pen w (now (out .entry))) (pen (r .w) (now (out .exit))) (c .at) (nextAt (now (deck .entry)) (now (pool .entry)) c) (r .next) (length (now (deck .entry))) ⌝ }
 {
     let x = spot::spot_at(deck, c);
-    let lead = x.lead;
-    let w1 = joints::put_props(w, pool, out, lead);
+    let w1 = joints::put_props(w, pool, out, x.lead);
     content(w1, deck, pool, out, settings, x, i)
 }

@@ -62,11 +62,11 @@ put-key-byte-requires t c κs = search needs
 
 -- src/lib.rt:171:13
 pub put-key-put-question-requires : (t : ℕ) → put-key-lts.Need-put-question-requires (put-key-claims t) (put-key-at t) put-key.Post
-put-key-put-question-requires t c κs = let q = (c .before .before .before .before .before .before .before .before .before .before .before .pre) .0 in let p = (c .before .before .before .before .before .before .before .before .before .before .before .pre) .1 in (omega (arith, q), (calm-drawn (p .0) (of-byte mark _ (c .before .before .before .byte .ensures)), p .1, p .2))
+put-key-put-question-requires t c κs = let q = (c .before .before .before .before .before .before .before .before .before .before .pre) .0 in let p = (c .before .before .before .before .before .before .before .before .before .before .pre) .1 in (omega (arith, q), (calm-drawn (p .0) (of-byte mark _ (c .before .before .before .byte .ensures)), p .1, p .2))
 
 -- src/lib.rt:172:9
 pub put-key-with-colon-requires : (t : ℕ) → put-key-lts.Need-with-colon-requires (put-key-claims t) (put-key-at t) put-key.Post
-put-key-with-colon-requires t c κs = let z = calm-after (calm-drawn ((c .before .before .before .before .before .before .before .before .before .before .before .before .before .before .before .pre) .1 .0) (of-byte mark _ (c .before .before .before .before .before .before .before .byte .ensures))) _ _ _ (c .before .before .before .put-question .ensures .drawn) in omega (arith, z .ready .out-small)
+put-key-with-colon-requires t c κs = let z = calm-after (calm-drawn ((c .before .before .before .before .before .before .before .before .before .before .before .before .before .before .pre) .1 .0) (of-byte mark _ (c .before .before .before .before .before .before .before .byte .ensures))) _ _ _ (c .before .before .before .put-question .ensures .drawn) in omega (arith, z .ready .out-small)
 
 -- src/lib.rt:172:9
 pub put-key-same-length : (t : ℕ) → put-key-lts.Need-same-length (put-key-claims t) (put-key-at t) put-key.Post
@@ -78,7 +78,7 @@ put-key-returns t c = key-explicit _ _ _ _ _ _ _ _ _ (c .before .before .before 
 
 -- src/lib.rt:174:5
 pub put-key-key-requires : (t : ℕ) → put-key-lts.Need-key-requires (put-key-claims t) (put-key-at t) put-key.Post
-put-key-key-requires t c κs = let p = (c .before .before .before .before .before .before .before .pre) .1 in (p .0 .ready, p .1, p .2)
+put-key-key-requires t c κs = let p = (c .before .before .before .before .before .before .pre) .1 in (p .0 .ready, p .1, p .2)
 
 -- src/lib.rt:153:1
 pub put-key-same-length-2 : (t : ℕ) → put-key-lts.Need-same-length-2 (put-key-claims t) (put-key-at t) put-key.Post
@@ -86,4 +86,4 @@ put-key-same-length-2 t c = search needs
 
 -- src/lib.rt:153:1
 pub put-key-returns-2 : (t : ℕ) → put-key-lts.Need-returns-2 (put-key-claims t) (put-key-at t) put-key.Post
-put-key-returns-2 t c = key-inline _ _ _ _ _ _ _ _ _ (c .before .before .before .before .before .is-explicit .ensures) (c .before .before .before .before .if1 .left) ((c .before .before .before .before .before .before .before .before .before .before .pre) .1 .0 .flow) (c .before .before .key .ensures)
+put-key-returns-2 t c = key-inline _ _ _ _ _ _ _ _ _ (c .before .before .before .before .before .is-explicit .ensures) (c .before .before .before .before .if1 .left) ((c .before .before .before .before .before .before .before .before .before .pre) .1 .0 .flow) (c .before .before .key .ensures)

@@ -59,7 +59,7 @@ put-question-step-of-requires t c κs = search needs
 
 -- src/lib.rt:192:13
 pub put-question-add-j : (t : ℕ) → put-question-lts.Need-add-j (put-question-claims t) (put-question-at t) put-question.Post
-put-question-add-j t c = let p = (c .before .before .before .before .before .pre) .1 .0 in let e = c .step-of .ensures .1 (p .ready .step) in omega (arith, e, p .column)
+put-question-add-j t c = let p = (c .before .before .before .before .pre) .1 .0 in let e = c .step-of .ensures .1 (p .ready .step) in omega (arith, e, p .column)
 
 -- src/lib.rt:193:8
 pub put-question-is-block-requires : (t : ℕ) → put-question-lts.Need-is-block-requires (put-question-claims t) (put-question-at t) put-question.Post
@@ -75,7 +75,7 @@ put-question-byte-requires t c κs = search needs
 
 -- src/lib.rt:196:9
 pub put-question-put-members-requires : (t : ℕ) → put-question-lts.Need-put-members-requires (put-question-claims t) (put-question-at t) put-question.Post
-put-question-put-members-requires t c κs = let q = (c .before .before .before .before .before .before .before .before .before .before .before .before .before .before .before .before .pre) .0 in let p = (c .before .before .before .before .before .before .before .before .before .before .before .before .before .before .before .before .pre) .1 .0 in let g = (c .before .before .before .before .before .before .before .before .before .before .before .before .before .before .before .before .pre) .1 .1 in let d = deeper _ (c .before .before .before .before .before .before .before .before .before .before .before .before .before .before .before .before .args .x) _ g (c .before .before .before .before .before .before .before .before .before .before .is-block .ensures) (c .before .before .before .before .before .before .before .before .before .if1 .taken) in let e = c .before .before .before .before .before .before .before .before .before .before .before .step-of .ensures .1 (p .ready .step) in (omega (arith, q, d, g .within), (calm-inside (calm-drawn (calm-drawn p (c .before .before .before .before .before .before .before .put-props-compact .ensures)) (of-byte space _ (c .before .before .before .byte .ensures))) _ _ d (g .within) (omega (arith, e)), g, (c .before .before .before .before .before .before .before .before .before .before .before .before .before .before .before .before .pre) .1 .2))
+put-question-put-members-requires t c κs = let q = (c .before .before .before .before .before .before .before .before .before .before .before .before .before .before .before .pre) .0 in let p = (c .before .before .before .before .before .before .before .before .before .before .before .before .before .before .before .pre) .1 .0 in let g = (c .before .before .before .before .before .before .before .before .before .before .before .before .before .before .before .pre) .1 .1 in let d = deeper _ (c .before .before .before .before .before .before .before .before .before .before .before .before .before .before .before .args .x) _ g (c .before .before .before .before .before .before .before .before .before .before .is-block .ensures) (c .before .before .before .before .before .before .before .before .before .if1 .taken) in let e = c .before .before .before .before .before .before .before .before .before .before .before .step-of .ensures .1 (p .ready .step) in (omega (arith, q, d, g .within), (calm-inside (calm-drawn (calm-drawn p (c .before .before .before .before .before .before .before .put-props-compact .ensures)) (of-byte space _ (c .before .before .before .byte .ensures))) _ _ d (g .within) (omega (arith, e)), g, (c .before .before .before .before .before .before .before .before .before .before .before .before .before .before .before .pre) .1 .2))
 
 -- src/lib.rt:196:9
 pub put-question-same-length : (t : ℕ) → put-question-lts.Need-same-length (put-question-claims t) (put-question-at t) put-question.Post
@@ -87,7 +87,7 @@ put-question-returns t c = key-below-block _ _ _ _ _ _ _ _ _ (c .before .before 
 
 -- src/lib.rt:198:5
 pub put-question-put-key-line-requires : (t : ℕ) → put-question-lts.Need-put-key-line-requires (put-question-claims t) (put-question-at t) put-question.Post
-put-question-put-key-line-requires t c κs = let p = (c .before .before .before .before .before .before .before .before .pre) .1 .0 in let e = c .before .before .before .step-of .ensures .1 (p .ready .step) in (in-line p _ _ (omega arith) (p .ready .here) (omega (arith, e)), (c .before .before .before .before .before .before .before .before .pre) .1 .1, (c .before .before .before .before .before .before .before .before .pre) .1 .2, p .flow, p .key)
+put-question-put-key-line-requires t c κs = let p = (c .before .before .before .before .before .before .before .pre) .1 .0 in let e = c .before .before .before .step-of .ensures .1 (p .ready .step) in (in-line p _ _ (omega arith) (p .ready .here) (omega (arith, e)), (c .before .before .before .before .before .before .before .pre) .1 .1, (c .before .before .before .before .before .before .before .pre) .1 .2, p .flow, p .key)
 
 -- src/lib.rt:178:1
 pub put-question-same-length-2 : (t : ℕ) → put-question-lts.Need-same-length-2 (put-question-claims t) (put-question-at t) put-question.Post

@@ -61,7 +61,7 @@ put-value-is-included-requires t c κs = search needs
 
 -- src/lib.rt:218:9
 pub put-value-put-include-requires : (t : ℕ) → put-value-lts.Need-put-include-requires (put-value-claims t) (put-value-at t) put-value.Post
-put-value-put-include-requires t c κs = let r = (c .before .before .before .before .before .before .before .before .pre) .1 .ready in let g = spot-good _ _ _ (r .here) (r .deck-small) (c .before .before .before .before .spot-at .ensures) in (r .out-small, r .here, omega (arith, g .2, r .deck-small))
+put-value-put-include-requires t c κs = let r = (c .before .before .before .before .before .before .before .pre) .1 .ready in let g = spot-good _ _ _ (r .here) (r .deck-small) (c .before .before .before .spot-at .ensures) in (r .out-small, r .here, omega (arith, g .2, r .deck-small))
 
 -- src/lib.rt:218:9
 pub put-value-same-length : (t : ℕ) → put-value-lts.Need-same-length (put-value-claims t) (put-value-at t) put-value.Post
@@ -69,7 +69,7 @@ put-value-same-length t c = search needs
 
 -- src/lib.rt:218:9
 pub put-value-returns : (t : ℕ) → put-value-lts.Need-returns (put-value-claims t) (put-value-at t) put-value.Post
-put-value-returns t c = let r = (c .before .before .before .before .before .before .before .before .before .before .before .pre) .1 .ready in value-included _ _ _ _ _ _ _ _ (r .here) (c .before .before .before .before .before .before .before .spot-at .ensures) (c .before .before .before .before .before .is-included .ensures) (c .before .before .before .before .if1 .taken) (c .before .before .put-include .ensures)
+put-value-returns t c = let r = (c .before .before .before .before .before .before .before .before .before .before .pre) .1 .ready in value-included _ _ _ _ _ _ _ _ (r .here) (c .before .before .before .before .before .before .spot-at .ensures) (c .before .before .before .before .before .is-included .ensures) (c .before .before .before .before .if1 .taken) (c .before .before .put-include .ensures)
 
 -- src/lib.rt:220:8
 pub put-value-is-block-requires : (t : ℕ) → put-value-lts.Need-is-block-requires (put-value-claims t) (put-value-at t) put-value.Post
@@ -81,7 +81,7 @@ put-value-value-column-requires t c κs = search needs
 
 -- src/lib.rt:222:9
 pub put-value-put-under-requires : (t : ℕ) → put-value-lts.Need-put-under-requires (put-value-claims t) (put-value-at t) put-value.Post
-put-value-put-under-requires t c κs = let q = (c .before .before .before .before .before .before .before .before .before .before .before .pre) .0 in let p = (c .before .before .before .before .before .before .before .before .before .before .before .pre) .1 in let r = p .ready in let g = spot-good _ _ _ (r .here) (r .deck-small) (c .before .before .before .before .before .before .before .spot-at .ensures) in let d = deeper _ (c .before .before .before .before .before .before .before .spot-at .result) _ (g .0) (c .before .before .before .is-block .ensures) (c .before .before .if2 .taken) in let v = c .before .value-column .ensures in (omega (arith, q, d, g .1, g .0 .within), (calm-inside p _ _ (omega (arith, d, g .1)) (g .0 .within) (v .2), g .0, few-spot _ (λ k. omega (arith, c .before .before .before .before .before .before .before .before .before .before .shared-slice-known .given k)) _ _ (r .here) (c .before .before .before .before .before .before .before .spot-at .ensures), omega (arith, g .2, r .deck-small)))
+put-value-put-under-requires t c κs = let q = (c .before .before .before .before .before .before .before .before .before .before .pre) .0 in let p = (c .before .before .before .before .before .before .before .before .before .before .pre) .1 in let r = p .ready in let g = spot-good _ _ _ (r .here) (r .deck-small) (c .before .before .before .before .before .before .spot-at .ensures) in let d = deeper _ (c .before .before .before .before .before .before .spot-at .result) _ (g .0) (c .before .before .before .is-block .ensures) (c .before .before .if2 .taken) in let v = c .before .value-column .ensures in (omega (arith, q, d, g .1, g .0 .within), (calm-inside p _ _ (omega (arith, d, g .1)) (g .0 .within) (v .2), g .0, few-spot _ (λ k. omega (arith, c .before .before .before .before .before .before .before .before .before .shared-slice-known .given k)) _ _ (r .here) (c .before .before .before .before .before .before .spot-at .ensures), omega (arith, g .2, r .deck-small)))
 
 -- src/lib.rt:222:9
 pub put-value-same-length-2 : (t : ℕ) → put-value-lts.Need-same-length-2 (put-value-claims t) (put-value-at t) put-value.Post
@@ -89,7 +89,7 @@ put-value-same-length-2 t c = search needs
 
 -- src/lib.rt:222:9
 pub put-value-returns-2 : (t : ℕ) → put-value-lts.Need-returns-2 (put-value-claims t) (put-value-at t) put-value.Post
-put-value-returns-2 t c = let r = (c .before .before .before .before .before .before .before .before .before .before .before .before .before .before .pre) .1 .ready in value-block _ _ _ _ _ _ _ _ _ _ (r .here) (r .deck-small) (c .before .before .before .before .before .before .before .before .before .before .spot-at .ensures) (c .before .before .before .before .before .before .before .before .is-included .ensures) (c .before .before .before .before .before .before .before .if1 .left) (c .before .before .before .before .before .before .is-block .ensures) (c .before .before .before .before .before .if2 .taken) (c .before .before .before .before .value-column .ensures .0) (c .before .before .put-under .ensures)
+put-value-returns-2 t c = let r = (c .before .before .before .before .before .before .before .before .before .before .before .before .before .pre) .1 .ready in value-block _ _ _ _ _ _ _ _ _ _ (r .here) (r .deck-small) (c .before .before .before .before .before .before .before .before .before .spot-at .ensures) (c .before .before .before .before .before .before .before .before .is-included .ensures) (c .before .before .before .before .before .before .before .if1 .left) (c .before .before .before .before .before .before .is-block .ensures) (c .before .before .before .before .before .if2 .taken) (c .before .before .before .before .value-column .ensures .0) (c .before .before .put-under .ensures)
 
 -- src/lib.rt:224:17
 pub put-value-step-of-requires : (t : ℕ) → put-value-lts.Need-step-of-requires (put-value-claims t) (put-value-at t) put-value.Post
@@ -97,11 +97,11 @@ put-value-step-of-requires t c κs = search needs
 
 -- src/lib.rt:224:13
 pub put-value-add-j : (t : ℕ) → put-value-lts.Need-add-j (put-value-claims t) (put-value-at t) put-value.Post
-put-value-add-j t c = let p = (c .before .before .before .before .before .before .before .before .before .before .pre) .1 in let e = c .step-of .ensures .1 (p .ready .step) in omega (arith, e, p .column)
+put-value-add-j t c = let p = (c .before .before .before .before .before .before .before .before .before .pre) .1 in let e = c .step-of .ensures .1 (p .ready .step) in omega (arith, e, p .column)
 
 -- src/lib.rt:225:5
 pub put-value-put-value-requires : (t : ℕ) → put-value-lts.Need-put-value-requires (put-value-claims t) (put-value-at t) put-value.Post
-put-value-put-value-requires t c κs = let p = (c .before .before .before .before .before .before .before .before .before .before .before .pre) .1 in let r = p .ready in let g = spot-good _ _ _ (r .here) (r .deck-small) (c .before .before .before .before .before .before .before .spot-at .ensures) in let e = c .before .step-of .ensures .1 (r .step) in (in-line p _ _ (g .1) (g .2) (omega (arith, e)), g .0, few-spot _ (λ k. omega (arith, c .before .before .before .before .before .before .before .before .before .before .shared-slice-known .given k)) _ _ (r .here) (c .before .before .before .before .before .before .before .spot-at .ensures), p .flow, p .key)
+put-value-put-value-requires t c κs = let p = (c .before .before .before .before .before .before .before .before .before .before .pre) .1 in let r = p .ready in let g = spot-good _ _ _ (r .here) (r .deck-small) (c .before .before .before .before .before .before .spot-at .ensures) in let e = c .before .step-of .ensures .1 (r .step) in (in-line p _ _ (g .1) (g .2) (omega (arith, e)), g .0, few-spot _ (λ k. omega (arith, c .before .before .before .before .before .before .before .before .before .shared-slice-known .given k)) _ _ (r .here) (c .before .before .before .before .before .before .spot-at .ensures), p .flow, p .key)
 
 -- src/lib.rt:202:1
 pub put-value-same-length-3 : (t : ℕ) → put-value-lts.Need-same-length-3 (put-value-claims t) (put-value-at t) put-value.Post
@@ -109,4 +109,4 @@ put-value-same-length-3 t c = search needs
 
 -- src/lib.rt:202:1
 pub put-value-returns-3 : (t : ℕ) → put-value-lts.Need-returns-3 (put-value-claims t) (put-value-at t) put-value.Post
-put-value-returns-3 t c = let r = (c .before .before .before .before .before .before .before .before .before .before .before .before .before .before .pre) .1 .ready in value-plain _ _ _ _ _ _ _ _ _ _ _ (r .here) (r .deck-small) (c .before .before .before .before .before .before .before .before .before .before .spot-at .ensures) (c .before .before .before .before .before .before .before .before .is-included .ensures) (c .before .before .before .before .before .before .before .if1 .left) (c .before .before .before .before .before .before .is-block .ensures) (c .before .before .before .before .before .if2 .left) (c .before .before .before .before .step-of .ensures .0) refl (c .before .before .put-value .ensures)
+put-value-returns-3 t c = let r = (c .before .before .before .before .before .before .before .before .before .before .before .before .before .pre) .1 .ready in value-plain _ _ _ _ _ _ _ _ _ _ _ (r .here) (r .deck-small) (c .before .before .before .before .before .before .before .before .before .spot-at .ensures) (c .before .before .before .before .before .before .before .before .is-included .ensures) (c .before .before .before .before .before .before .before .if1 .left) (c .before .before .before .before .before .before .is-block .ensures) (c .before .before .before .before .before .if2 .left) (c .before .before .before .before .step-of .ensures .0) refl (c .before .before .put-value .ensures)

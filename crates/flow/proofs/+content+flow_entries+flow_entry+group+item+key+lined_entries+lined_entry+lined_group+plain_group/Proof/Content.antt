@@ -89,7 +89,7 @@ content-enum-known-body-3 t c = search needs
 
 -- src/lib.rt:90:30
 pub content-group-requires : (t : ℕ) → content-lts.Need-group-requires (content-claims t) (content-at t) content.Post
-content-group-requires t c κs = let r = (c .before .before .before .before .before .before .before .before .before .before .pre) .1 .0 in let g = (c .before .before .before .before .before .before .before .before .before .before .pre) .1 .1 in let q = (c .before .before .before .before .before .before .before .before .before .before .pre) .0 in (omega (arith, q), (r, items-deeper (c .before .before .before .before .before .before .before .before .before .before .args .settings) _ (c .before .before .before .before .before .before .before .before .before .before .args .pool .now) (c .before .before .before .before .before .before .before .before .before .before .args .x) _ g (c .before .before .body3 .given .1), g .within, few-items (c .before .before .before .before .before .before .before .before .before .before .args .x) _ ((c .before .before .before .before .before .before .before .before .before .before .pre) .1 .2) (c .before .before .body3 .given .1)))
+content-group-requires t c κs = let r = (c .before .before .before .before .before .before .before .before .pre) .1 .0 in let g = (c .before .before .before .before .before .before .before .before .pre) .1 .1 in let q = (c .before .before .before .before .before .before .before .before .pre) .0 in (omega (arith, q), (r, items-deeper (c .before .before .before .before .before .before .before .before .args .settings) _ (c .before .before .before .before .before .before .before .before .args .pool .now) (c .before .before .before .before .before .before .before .before .args .x) _ g (c .before .before .body3 .given .1), g .within, few-items (c .before .before .before .before .before .before .before .before .args .x) _ ((c .before .before .before .before .before .before .before .before .pre) .1 .2) (c .before .before .body3 .given .1)))
 
 -- src/lib.rt:102:23
 pub content-enum-known-body-4 : (t : ℕ) → content-lts.Need-enum-known-body-4 (content-claims t) (content-at t) content.Post
@@ -97,7 +97,7 @@ content-enum-known-body-4 t c = search needs
 
 -- src/lib.rt:102:29
 pub content-group-requires-2 : (t : ℕ) → content-lts.Need-group-requires-2 (content-claims t) (content-at t) content.Post
-content-group-requires-2 t c κs = let r = (c .before .before .before .before .before .before .before .before .before .before .pre) .1 .0 in let g = (c .before .before .before .before .before .before .before .before .before .before .pre) .1 .1 in let q = (c .before .before .before .before .before .before .before .before .before .before .pre) .0 in (omega (arith, q), (r, pairs-deeper (c .before .before .before .before .before .before .before .before .before .before .args .settings) _ (c .before .before .before .before .before .before .before .before .before .before .args .pool .now) (c .before .before .before .before .before .before .before .before .before .before .args .x) _ g (c .before .before .body4 .given .1), g .within, few-pairs (c .before .before .before .before .before .before .before .before .before .before .args .x) _ ((c .before .before .before .before .before .before .before .before .before .before .pre) .1 .2) (c .before .before .body4 .given .1)))
+content-group-requires-2 t c κs = let r = (c .before .before .before .before .before .before .before .before .pre) .1 .0 in let g = (c .before .before .before .before .before .before .before .before .pre) .1 .1 in let q = (c .before .before .before .before .before .before .before .before .pre) .0 in (omega (arith, q), (r, pairs-deeper (c .before .before .before .before .before .before .before .before .args .settings) _ (c .before .before .before .before .before .before .before .before .args .pool .now) (c .before .before .before .before .before .before .before .before .args .x) _ g (c .before .before .body4 .given .1), g .within, few-pairs (c .before .before .before .before .before .before .before .before .args .x) _ ((c .before .before .before .before .before .before .before .before .pre) .1 .2) (c .before .before .body4 .given .1)))
 
 -- src/lib.rt:49:1
 pub content-same-length : (t : ℕ) → content-lts.Need-same-length (content-claims t) (content-at t) content.Post
@@ -105,7 +105,7 @@ content-same-length t c = search needs
 
 -- src/lib.rt:49:1
 pub content-returns : (t : ℕ) → content-lts.Need-returns (content-claims t) (content-at t) content.Post
-content-returns t c = content-null _ _ _ _ _ ((c .before .before .before .before .before .before .before .before .before .before .before .before .pre) .1 .1) (c .before .before .before .before .enum-told .given .1) (c .before .before .put-null .ensures)
+content-returns t c = content-null _ _ _ _ _ ((c .before .before .before .before .before .before .before .before .before .before .pre) .1 .1) (c .before .before .before .before .enum-told .given .1) (c .before .before .put-null .ensures)
 
 -- src/lib.rt:49:1
 pub content-same-length-2 : (t : ℕ) → content-lts.Need-same-length-2 (content-claims t) (content-at t) content.Post
@@ -113,7 +113,7 @@ content-same-length-2 t c = search needs
 
 -- src/lib.rt:49:1
 pub content-returns-2 : (t : ℕ) → content-lts.Need-returns-2 (content-claims t) (content-at t) content.Post
-content-returns-2 t c = content-words _ _ _ _ _ _ ((c .before .before .before .before .before .before .before .before .before .before .before .before .before .before .pre) .1 .1) (c .before .before .before .before .before .before .body .given .1) (c .before .before .before .before .is-marked .ensures) (c .before .before .put-words .ensures)
+content-returns-2 t c = content-words _ _ _ _ _ _ ((c .before .before .before .before .before .before .before .before .before .before .before .before .pre) .1 .1) (c .before .before .before .before .before .before .body .given .1) (c .before .before .before .before .is-marked .ensures) (c .before .before .put-words .ensures)
 
 -- src/lib.rt:49:1
 pub content-same-length-3 : (t : ℕ) → content-lts.Need-same-length-3 (content-claims t) (content-at t) content.Post
@@ -121,7 +121,7 @@ content-same-length-3 t c = search needs
 
 -- src/lib.rt:49:1
 pub content-returns-3 : (t : ℕ) → content-lts.Need-returns-3 (content-claims t) (content-at t) content.Post
-content-returns-3 t c = content-alias _ _ _ _ _ _ ((c .before .before .before .before .before .before .before .before .before .before .before .before .before .pre) .1 .1) (c .before .before .before .before .before .body2 .given .1) (c .before .before .put-alias .ensures)
+content-returns-3 t c = content-alias _ _ _ _ _ _ ((c .before .before .before .before .before .before .before .before .before .before .before .pre) .1 .1) (c .before .before .before .before .before .body2 .given .1) (c .before .before .put-alias .ensures)
 
 -- src/lib.rt:49:1
 pub content-same-length-4 : (t : ℕ) → content-lts.Need-same-length-4 (content-claims t) (content-at t) content.Post
@@ -129,7 +129,7 @@ content-same-length-4 t c = search needs
 
 -- src/lib.rt:49:1
 pub content-returns-4 : (t : ℕ) → content-lts.Need-returns-4 (content-claims t) (content-at t) content.Post
-content-returns-4 t c = content-items _ _ _ _ _ _ ((c .before .before .before .before .before .before .before .before .before .before .before .before .before .pre) .1 .1) (c .before .before .before .before .before .body3 .given .1) (c .before .before .group .ensures)
+content-returns-4 t c = content-items _ _ _ _ _ _ ((c .before .before .before .before .before .before .before .before .before .before .before .pre) .1 .1) (c .before .before .before .before .before .body3 .given .1) (c .before .before .group .ensures)
 
 -- src/lib.rt:49:1
 pub content-same-length-5 : (t : ℕ) → content-lts.Need-same-length-5 (content-claims t) (content-at t) content.Post
@@ -137,4 +137,4 @@ content-same-length-5 t c = search needs
 
 -- src/lib.rt:49:1
 pub content-returns-5 : (t : ℕ) → content-lts.Need-returns-5 (content-claims t) (content-at t) content.Post
-content-returns-5 t c = content-pairs _ _ _ _ _ _ ((c .before .before .before .before .before .before .before .before .before .before .before .before .before .pre) .1 .1) (c .before .before .before .before .before .body4 .given .1) (c .before .before .group2 .ensures)
+content-returns-5 t c = content-pairs _ _ _ _ _ _ ((c .before .before .before .before .before .before .before .before .before .before .before .pre) .1 .1) (c .before .before .before .before .before .body4 .given .1) (c .before .before .group2 .ensures)

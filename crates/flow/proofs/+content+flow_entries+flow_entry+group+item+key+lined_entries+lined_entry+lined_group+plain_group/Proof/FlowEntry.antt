@@ -69,7 +69,7 @@ flow-entry-byte-requires t c κs = search needs
 
 -- src/lib.rt:295:9
 pub flow-entry-item-requires : (t : ℕ) → flow-entry-lts.Need-item-requires (flow-entry-claims t) (flow-entry-at t) flow-entry.Post
-flow-entry-item-requires t c κs = let q = (c .before .before .before .before .before .before .before .before .before .before .before .before .before .before .before .before .pre) .0 in let r = (c .before .before .before .before .before .before .before .before .before .before .before .before .before .before .before .before .pre) .1 in let e = key-there _ _ _ _ _ _ _ _ _ (r .here) (r .deck-small) (c .before .before .before .before .before .before .before .before .before .before .before .spot-at .ensures) (c .before .before .before .before .before .before .before .before .before .key .ensures) in (omega (arith, q, e .onward, e .within), further (after-byte _ _ _ _ (after r _ _ _ (e .drawn)) (c .before .before .before .byte .ensures)) _ (e .onward) (e .within))
+flow-entry-item-requires t c κs = let q = (c .before .before .before .before .before .before .before .before .before .before .before .before .before .before .before .pre) .0 in let r = (c .before .before .before .before .before .before .before .before .before .before .before .before .before .before .before .pre) .1 in let e = key-there _ _ _ _ _ _ _ _ _ (r .here) (r .deck-small) (c .before .before .before .before .before .before .before .before .before .before .spot-at .ensures) (c .before .before .before .before .before .before .before .before .key .ensures) in (omega (arith, q, e .onward, e .within), further (after-byte _ _ _ _ (after r _ _ _ (e .drawn)) (c .before .before .before .byte .ensures)) _ (e .onward) (e .within))
 
 -- src/lib.rt:295:9
 pub flow-entry-same-length : (t : ℕ) → flow-entry-lts.Need-same-length (flow-entry-claims t) (flow-entry-at t) flow-entry.Post
@@ -77,7 +77,7 @@ flow-entry-same-length t c = search needs
 
 -- src/lib.rt:295:9
 pub flow-entry-returns : (t : ℕ) → flow-entry-lts.Need-returns (flow-entry-claims t) (flow-entry-at t) flow-entry.Post
-flow-entry-returns t c = let r = (c .before .before .before .before .before .before .before .before .before .before .before .before .before .before .before .before .before .before .before .pre) .1 in pair-emits _ _ _ _ _ _ _ _ (c .before .before .before .before .before .before .before .before .before .before .before .before .before .before .before .if1 .taken) (key-there _ _ _ _ _ _ _ _ _ (r .here) (r .deck-small) (c .before .before .before .before .before .before .before .before .before .before .before .before .before .before .spot-at .ensures) (c .before .before .before .before .before .before .before .before .before .before .before .before .key .ensures)) (c .before .before .before .before .before .before .byte .ensures) (c .before .before .item .ensures)
+flow-entry-returns t c = let r = (c .before .before .before .before .before .before .before .before .before .before .before .before .before .before .before .before .before .before .pre) .1 in pair-emits _ _ _ _ _ _ _ _ (c .before .before .before .before .before .before .before .before .before .before .before .before .before .before .if1 .taken) (key-there _ _ _ _ _ _ _ _ _ (r .here) (r .deck-small) (c .before .before .before .before .before .before .before .before .before .before .before .before .before .spot-at .ensures) (c .before .before .before .before .before .before .before .before .before .before .before .key .ensures)) (c .before .before .before .before .before .before .byte .ensures) (c .before .before .item .ensures)
 
 -- src/lib.rt:297:5
 pub flow-entry-item-requires-2 : (t : ℕ) → flow-entry-lts.Need-item-requires-2 (flow-entry-claims t) (flow-entry-at t) flow-entry.Post

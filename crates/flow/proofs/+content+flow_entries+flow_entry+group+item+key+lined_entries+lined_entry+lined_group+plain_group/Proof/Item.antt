@@ -65,7 +65,7 @@ item-put-props-requires t c κs = search needs
 
 -- src/lib.rt:343:5
 pub item-content-requires : (t : ℕ) → item-lts.Need-content-requires (item-claims t) (item-at t) item.Post
-item-content-requires t c κs = let r = (c .before .before .before .before .before .before .before .before .before .before .pre) .1 in let g = spot-good _ _ _ (r .here) (r .deck-small) (c .before .before .before .before .before .before .spot-at .ensures) in let q = (c .before .before .before .before .before .before .before .before .before .before .pre) .0 in (omega (arith, q, g .1, g .2), (further (after-drawn r (c .before .before .before .put-props .ensures)) _ (g .1) (g .2), g .0, few-spot _ (λ k. omega (arith, c .before .before .before .before .before .before .before .before .before .shared-slice-known .given k)) _ _ (r .here) (c .before .before .before .before .before .before .spot-at .ensures)))
+item-content-requires t c κs = let r = (c .before .before .before .before .before .before .before .before .before .pre) .1 in let g = spot-good _ _ _ (r .here) (r .deck-small) (c .before .before .before .before .before .spot-at .ensures) in let q = (c .before .before .before .before .before .before .before .before .before .pre) .0 in (omega (arith, q, g .1, g .2), (further (after-drawn r (c .before .before .before .put-props .ensures)) _ (g .1) (g .2), g .0, few-spot _ (λ k. omega (arith, c .before .before .before .before .before .before .before .before .shared-slice-known .given k)) _ _ (r .here) (c .before .before .before .before .before .spot-at .ensures)))
 
 -- src/lib.rt:328:1
 pub item-same-length : (t : ℕ) → item-lts.Need-same-length (item-claims t) (item-at t) item.Post
@@ -73,4 +73,4 @@ item-same-length t c = search needs
 
 -- src/lib.rt:328:1
 pub item-returns : (t : ℕ) → item-lts.Need-returns (item-claims t) (item-at t) item.Post
-item-returns t c = let r = (c .before .before .before .before .before .before .before .before .before .before .before .before .before .pre) .1 in item-whole _ _ _ _ _ _ _ (r .here) (r .deck-small) (c .before .before .before .before .before .before .before .before .before .spot-at .ensures) (c .before .before .before .before .before .before .put-props .ensures) (c .before .before .content .ensures)
+item-returns t c = let r = (c .before .before .before .before .before .before .before .before .before .before .before .before .pre) .1 in item-whole _ _ _ _ _ _ _ (r .here) (r .deck-small) (c .before .before .before .before .before .before .before .before .spot-at .ensures) (c .before .before .before .before .before .before .put-props .ensures) (c .before .before .content .ensures)

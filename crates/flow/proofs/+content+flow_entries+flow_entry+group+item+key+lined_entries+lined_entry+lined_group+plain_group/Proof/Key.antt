@@ -67,7 +67,7 @@ key-with-key-requires t c κs = search needs
 
 -- src/lib.rt:318:9
 pub key-content-requires : (t : ℕ) → key-lts.Need-content-requires (key-claims t) (key-at t) key.Post
-key-content-requires t c κs = let q = (c .before .before .before .before .before .before .before .before .before .before .pre) .0 in let p = (c .before .before .before .before .before .before .before .before .before .before .pre) .1 in (omega (arith, q), (keyed-at _ _ _ _ _ _ _ (c .before .with-key .ensures) (after-drawn (p .0) (c .before .before .before .before .put-props .ensures)), p .1, p .2))
+key-content-requires t c κs = let q = (c .before .before .before .before .before .before .before .before .before .pre) .0 in let p = (c .before .before .before .before .before .before .before .before .before .pre) .1 in (omega (arith, q), (keyed-at _ _ _ _ _ _ _ (c .before .with-key .ensures) (after-drawn (p .0) (c .before .before .before .before .put-props .ensures)), p .1, p .2))
 
 -- src/lib.rt:321:9
 pub key-with-key-requires-2 : (t : ℕ) → key-lts.Need-with-key-requires-2 (key-claims t) (key-at t) key.Post
@@ -75,7 +75,7 @@ key-with-key-requires-2 t c κs = search needs
 
 -- src/lib.rt:323:9
 pub key-put-colon-requires : (t : ℕ) → key-lts.Need-put-colon-requires (key-claims t) (key-at t) key.Post
-key-put-colon-requires t c κs = let l = (c .before .before .before .before .before .before .before .before .before .before .before .before .before .before .before .before .before .pre) .1 .0 .out-small in let a = c .before .before .before .before .before .before .before .before .before .before .before .put-props .kept in let b = c .before .before .before .before .before .before .content .kept in search needs
+key-put-colon-requires t c κs = let l = (c .before .before .before .before .before .before .before .before .before .before .before .before .before .before .before .pre) .1 .0 .out-small in let a = c .before .before .before .before .before .before .before .before .before .before .put-props .kept in let b = c .before .before .before .before .before .content .kept in search needs
 
 -- src/lib.rt:301:1
 pub key-same-length : (t : ℕ) → key-lts.Need-same-length (key-claims t) (key-at t) key.Post
@@ -83,4 +83,4 @@ key-same-length t c = search needs
 
 -- src/lib.rt:301:1
 pub key-returns : (t : ℕ) → key-lts.Need-returns (key-claims t) (key-at t) key.Post
-key-returns t c = key-whole-is _ _ _ _ _ _ _ _ _ _ _ _ _ _ (c .before .before .before .before .before .before .before .before .before .before .before .before .before .before .put-props .ensures) (c .before .before .before .before .before .before .before .before .before .before .before .with-key .ensures) (c .before .before .before .before .before .before .before .before .before .content .ensures) (c .before .before .before .before .with-key2 .ensures) (c .before .before .put-colon .ensures)
+key-returns t c = key-whole-is _ _ _ _ _ _ _ _ _ _ _ _ _ _ (c .before .before .before .before .before .before .before .before .before .before .before .before .before .put-props .ensures) (c .before .before .before .before .before .before .before .before .before .before .with-key .ensures) (c .before .before .before .before .before .before .before .before .content .ensures) (c .before .before .before .before .with-key2 .ensures) (c .before .before .put-colon .ensures)

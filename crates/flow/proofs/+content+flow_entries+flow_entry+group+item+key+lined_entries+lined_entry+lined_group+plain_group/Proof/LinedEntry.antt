@@ -69,11 +69,11 @@ lined-entry-put-lined-before-requires t c κs = search needs
 
 -- src/lib.rt:269:9
 pub lined-entry-flow-entry-requires : (t : ℕ) → lined-entry-lts.Need-flow-entry-requires (lined-entry-claims t) (lined-entry-at t) lined-entry.Post
-lined-entry-flow-entry-requires t c κs = let r = (c .before .before .before .before .before .before .before .before .before .before .before .pre) .1 in let q = (c .before .before .before .before .before .before .before .before .before .before .before .pre) .0 in (omega (arith, q), after-drawn r (c .before .before .before .put-lined-before .ensures))
+lined-entry-flow-entry-requires t c κs = let r = (c .before .before .before .before .before .before .before .before .before .before .pre) .1 in let q = (c .before .before .before .before .before .before .before .before .before .before .pre) .0 in (omega (arith, q), after-drawn r (c .before .before .before .put-lined-before .ensures))
 
 -- src/lib.rt:272:9
 pub lined-entry-put-lined-after-requires : (t : ℕ) → lined-entry-lts.Need-put-lined-after-requires (lined-entry-claims t) (lined-entry-at t) lined-entry.Post
-lined-entry-put-lined-after-requires t c κs = let r = (c .before .before .before .before .before .before .before .before .before .before .before .before .before .before .before .before .before .pre) .1 in let z = after (after-drawn r (c .before .before .before .before .before .before .before .before .before .put-lined-before .ensures)) _ _ _ (c .before .before .before .before .before .flow-entry .ensures .drawn) in let g = spot-good _ _ _ (c .before .before .before .before .before .before .before .before .before .before .before .before .before .last-of .ensures .within) (r .deck-small) (c .before .before .before .before .before .before .before .before .before .before .before .before .spot-at .ensures) in (omega (arith, z .out-small), omega (arith, g .2, r .deck-small))
+lined-entry-put-lined-after-requires t c κs = let r = (c .before .before .before .before .before .before .before .before .before .before .before .before .before .before .before .pre) .1 in let z = after (after-drawn r (c .before .before .before .before .before .before .before .before .put-lined-before .ensures)) _ _ _ (c .before .before .before .before .flow-entry .ensures .drawn) in let g = spot-good _ _ _ (c .before .before .before .before .before .before .before .before .before .before .before .last-of .ensures .within) (r .deck-small) (c .before .before .before .before .before .before .before .before .before .before .spot-at .ensures) in (omega (arith, z .out-small), omega (arith, g .2, r .deck-small))
 
 -- src/lib.rt:251:1
 pub lined-entry-same-length : (t : ℕ) → lined-entry-lts.Need-same-length (lined-entry-claims t) (lined-entry-at t) lined-entry.Post
@@ -81,4 +81,4 @@ lined-entry-same-length t c = search needs
 
 -- src/lib.rt:251:1
 pub lined-entry-returns : (t : ℕ) → lined-entry-lts.Need-returns (lined-entry-claims t) (lined-entry-at t) lined-entry.Post
-lined-entry-returns t c = lined-entry-whole _ _ _ _ _ _ _ _ _ _ (c .before .before .before .before .before .before .before .before .before .before .before .before .before .before .before .before .last-of .ensures) (c .before .before .before .before .before .before .before .before .before .before .before .before .before .before .before .spot-at .ensures) (c .before .before .before .before .before .before .before .before .before .before .before .before .put-lined-before .ensures) (c .before .before .before .before .before .before .before .before .flow-entry .ensures) (c .before .before .put-lined-after .ensures)
+lined-entry-returns t c = lined-entry-whole _ _ _ _ _ _ _ _ _ _ (c .before .before .before .before .before .before .before .before .before .before .before .before .before .before .last-of .ensures) (c .before .before .before .before .before .before .before .before .before .before .before .before .before .spot-at .ensures) (c .before .before .before .before .before .before .before .before .before .before .before .put-lined-before .ensures) (c .before .before .before .before .before .before .before .flow-entry .ensures) (c .before .before .put-lined-after .ensures)

@@ -74,7 +74,7 @@ lined-group-lined-entries-requires t c κs = let r = (c .before .before .before 
 
 -- src/lib.rt:165:9
 pub lined-group-spaces-requires : (t : ℕ) → lined-group-lts.Need-spaces-requires (lined-group-claims t) (lined-group-at t) lined-group.Post
-lined-group-spaces-requires t c κs = let r = (c .before .before .before .before .before .before .before .before .before .before .before .before .before .before .before .before .before .before .before .pre) .1 .0 in let z = after (after-byte _ _ _ _ (after-byte _ _ _ _ r (c .before .before .before .before .before .before .before .before .before .before .before .before .before .byte .ensures)) (c .before .before .before .before .before .before .before .before .before .byte2 .ensures)) _ _ _ (c .before .before .before .before .before .lined-entries .ensures .drawn) in omega (arith, z .out-small)
+lined-group-spaces-requires t c κs = let r = (c .before .before .before .before .before .before .before .before .before .before .before .before .before .before .before .before .before .before .pre) .1 .0 in let z = after (after-byte _ _ _ _ (after-byte _ _ _ _ r (c .before .before .before .before .before .before .before .before .before .before .before .before .byte .ensures)) (c .before .before .before .before .before .before .before .before .byte2 .ensures)) _ _ _ (c .before .before .before .before .lined-entries .ensures .drawn) in omega (arith, z .out-small)
 
 -- src/lib.rt:166:27
 pub lined-group-closing-of-requires : (t : ℕ) → lined-group-lts.Need-closing-of-requires (lined-group-claims t) (lined-group-at t) lined-group.Post
@@ -82,12 +82,12 @@ lined-group-closing-of-requires t c κs = search needs
 
 -- src/lib.rt:166:9
 pub lined-group-byte-requires-3 : (t : ℕ) → lined-group-lts.Need-byte-requires-3 (lined-group-claims t) (lined-group-at t) lined-group.Post
-lined-group-byte-requires-3 t c κs = let r = (c .before .before .before .before .before .before .before .before .before .before .before .before .before .before .before .before .before .before .before .before .before .before .before .before .pre) .1 .0 in let z = after (after-byte _ _ _ _ (after-byte _ _ _ _ r (c .before .before .before .before .before .before .before .before .before .before .before .before .before .before .before .before .before .before .byte .ensures)) (c .before .before .before .before .before .before .before .before .before .before .before .before .before .before .byte2 .ensures)) _ _ _ (c .before .before .before .before .before .before .before .before .before .before .lined-entries .ensures .drawn) in let k = c .before .before .before .before .spaces .kept .1 .0 in omega (arith, z .out-small, k)
+lined-group-byte-requires-3 t c κs = let r = (c .before .before .before .before .before .before .before .before .before .before .before .before .before .before .before .before .before .before .before .before .before .before .before .pre) .1 .0 in let z = after (after-byte _ _ _ _ (after-byte _ _ _ _ r (c .before .before .before .before .before .before .before .before .before .before .before .before .before .before .before .before .before .byte .ensures)) (c .before .before .before .before .before .before .before .before .before .before .before .before .before .byte2 .ensures)) _ _ _ (c .before .before .before .before .before .before .before .before .before .lined-entries .ensures .drawn) in let k = c .before .before .before .before .spaces .kept .1 .0 in omega (arith, z .out-small, k)
 
 -- src/lib.rt:145:1
 pub lined-group-same-length : (t : ℕ) → lined-group-lts.Need-same-length (lined-group-claims t) (lined-group-at t) lined-group.Post
-lined-group-same-length t c = kept-length _ (lined-whole _ _ _ _ _ _ _ _ _ _ _ (c .before .before .before .before .before .before .before .before .before .before .before .before .before .before .before .before .before .before .before .before .before .before .opening-of .ensures) (c .before .before .before .closing-of .ensures) (c .before .before .before .before .before .before .before .before .before .before .before .before .before .before .before .before .before .before .before .before .before .byte .ensures) (c .before .before .before .before .before .before .before .before .before .before .before .before .before .before .before .before .before .byte2 .ensures) (c .before .before .before .before .before .before .before .before .before .before .before .before .before .lined-entries .ensures) (c .before .before .before .before .before .before .before .spaces .ensures) (c .before .before .byte3 .ensures))
+lined-group-same-length t c = kept-length _ (lined-whole _ _ _ _ _ _ _ _ _ _ _ (c .before .before .before .before .before .before .before .before .before .before .before .before .before .before .before .before .before .before .before .before .before .opening-of .ensures) (c .before .before .before .closing-of .ensures) (c .before .before .before .before .before .before .before .before .before .before .before .before .before .before .before .before .before .before .before .before .byte .ensures) (c .before .before .before .before .before .before .before .before .before .before .before .before .before .before .before .before .byte2 .ensures) (c .before .before .before .before .before .before .before .before .before .before .before .before .lined-entries .ensures) (c .before .before .before .before .before .before .before .spaces .ensures) (c .before .before .byte3 .ensures))
 
 -- src/lib.rt:145:1
 pub lined-group-returns : (t : ℕ) → lined-group-lts.Need-returns (lined-group-claims t) (lined-group-at t) lined-group.Post
-lined-group-returns t c = lined-whole _ _ _ _ _ _ _ _ _ _ _ (c .before .before .before .before .before .before .before .before .before .before .before .before .before .before .before .before .before .before .before .before .before .before .opening-of .ensures) (c .before .before .before .closing-of .ensures) (c .before .before .before .before .before .before .before .before .before .before .before .before .before .before .before .before .before .before .before .before .before .byte .ensures) (c .before .before .before .before .before .before .before .before .before .before .before .before .before .before .before .before .before .byte2 .ensures) (c .before .before .before .before .before .before .before .before .before .before .before .before .before .lined-entries .ensures) (c .before .before .before .before .before .before .before .spaces .ensures) (c .before .before .byte3 .ensures)
+lined-group-returns t c = lined-whole _ _ _ _ _ _ _ _ _ _ _ (c .before .before .before .before .before .before .before .before .before .before .before .before .before .before .before .before .before .before .before .before .before .opening-of .ensures) (c .before .before .before .closing-of .ensures) (c .before .before .before .before .before .before .before .before .before .before .before .before .before .before .before .before .before .before .before .before .byte .ensures) (c .before .before .before .before .before .before .before .before .before .before .before .before .before .before .before .before .byte2 .ensures) (c .before .before .before .before .before .before .before .before .before .before .before .before .lined-entries .ensures) (c .before .before .before .before .before .before .before .spaces .ensures) (c .before .before .byte3 .ensures)

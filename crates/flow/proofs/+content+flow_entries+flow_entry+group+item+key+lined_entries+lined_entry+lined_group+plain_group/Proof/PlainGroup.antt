@@ -74,7 +74,7 @@ plain-group-closing-of-requires t c κs = search needs
 
 -- src/lib.rt:189:9
 pub plain-group-byte-requires-2 : (t : ℕ) → plain-group-lts.Need-byte-requires-2 (plain-group-claims t) (plain-group-at t) plain-group.Post
-plain-group-byte-requires-2 t c κs = let r = (c .before .before .before .before .before .before .before .before .before .before .before .before .before .before .before .before .pre) .1 in let z = after (after-byte _ _ _ _ r (c .before .before .before .before .before .before .before .before .before .before .byte .ensures)) _ _ _ (c .before .before .before .before .before .before .flow-entries .ensures .drawn) in omega (arith, z .out-small)
+plain-group-byte-requires-2 t c κs = let r = (c .before .before .before .before .before .before .before .before .before .before .before .before .before .before .before .pre) .1 in let z = after (after-byte _ _ _ _ r (c .before .before .before .before .before .before .before .before .before .byte .ensures)) _ _ _ (c .before .before .before .before .before .flow-entries .ensures .drawn) in omega (arith, z .out-small)
 
 -- src/lib.rt:171:1
 pub plain-group-same-length : (t : ℕ) → plain-group-lts.Need-same-length (plain-group-claims t) (plain-group-at t) plain-group.Post
@@ -82,4 +82,4 @@ plain-group-same-length t c = search needs
 
 -- src/lib.rt:171:1
 pub plain-group-returns : (t : ℕ) → plain-group-lts.Need-returns (plain-group-claims t) (plain-group-at t) plain-group.Post
-plain-group-returns t c = plain-whole _ _ _ _ _ _ _ _ _ _ (c .before .before .before .before .before .before .before .before .before .before .before .before .before .before .opening-of .ensures) (c .before .before .before .closing-of .ensures) (c .before .before .before .before .before .before .before .before .before .before .before .before .before .byte .ensures) (c .before .before .before .before .before .before .before .before .before .flow-entries .ensures) (c .before .before .byte2 .ensures)
+plain-group-returns t c = plain-whole _ _ _ _ _ _ _ _ _ _ (c .before .before .before .before .before .before .before .before .before .before .before .before .before .opening-of .ensures) (c .before .before .before .closing-of .ensures) (c .before .before .before .before .before .before .before .before .before .before .before .before .byte .ensures) (c .before .before .before .before .before .before .before .before .flow-entries .ensures) (c .before .before .byte2 .ensures)
