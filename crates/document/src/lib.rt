@@ -128,7 +128,7 @@ fn put_inlined(
     requires { ⌜ (Calm settings (now deck) (now pool) (pen w (now out)) (x .place) 0) × Good (now deck) x × (countIn (x .body) < 65536) ⌝ }
     ensures { λ r. ⌜ Emits settings (lineRoot settings (now (deck .entry)) (now (pool .entry)) x) (pen w (now (out .entry))) (pen (r .w) (now (out .exit))) (x .place) (endIn (now (deck .entry)) (now (pool .entry)) x) (r .next) (length (now (deck .entry))) ⌝ }
 {
-    let w1 = joints::put_props(w, pool, out, x.lead);
+    let w1 = parts::put_props(w, pool, out, x.lead);
     let i = choices::step_of(settings);
     let e = flow::content(w1, deck, pool, out, settings, x, i);
     let next = e.next;

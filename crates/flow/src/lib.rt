@@ -304,7 +304,7 @@ pub fn key(
     ensures { λ r. ⌜ Emits settings (keyOf (now (deck .entry)) (now (pool .entry)) settings (on (w .flow)) (on (w .key)) i (nodeIn (now (deck .entry)) (now (pool .entry)) x)) (pen w (now (out .entry))) (pen (r .w) (now (out .exit))) (x .place) (endIn (now (deck .entry)) (now (pool .entry)) x) (r .next) (length (now (deck .entry))) ⌝ }
 {
     let mark = w.key;
-    let w1 = joints::put_props(w, pool, out, x.lead);
+    let w1 = parts::put_props(w, pool, out, x.lead);
     let w2 = joints::with_key(w1, 1);
     let e = content(w2, deck, pool, out, settings, x, i);
     let next = e.next;
@@ -328,6 +328,6 @@ pub fn item(
     ensures { λ r. ⌜ Emits settings (itemOf (now (deck .entry)) (now (pool .entry)) settings (on (w .flow)) (on (w .key)) i (nodeAt (now (deck .entry)) (now (pool .entry)) c)) (pen w (now (out .entry))) (pen (r .w) (now (out .exit))) (c .at) (nextAt (now (deck .entry)) (now (pool .entry)) c) (r .next) (length (now (deck .entry))) ⌝ }
 {
     let x = spot::spot_at(deck, c);
-    let w1 = joints::put_props(w, pool, out, x.lead);
+    let w1 = parts::put_props(w, pool, out, x.lead);
     content(w1, deck, pool, out, settings, x, i)
 }

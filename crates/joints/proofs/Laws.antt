@@ -3,26 +3,24 @@
 use mathlib.Core.Path.{_≡_, refl, sym, ap, _∙_}
 use Prim.Native.Nat.{ℕ, _≤_}
 use native.Mathlib.Omega.{arith}
-use mathlib.Core.Bool.{Bool, true, false, true≢false, _||_}
+use mathlib.Core.Bool.{Bool, true, false}
 use mathlib.Core.List.{[], _∷_}
-use mathlib.Core.Option.{Option, none, some}
 use lib.ListN.{length}
-use Rattle.definition.specs.Base.{Bytes, isSome, spaces}
-use Rattle.definition.specs.Ascii.{SP, '&', ':'}
+use Rattle.definition.specs.Base.{Bytes, spaces}
+use Rattle.definition.specs.Ascii.{SP, ':'}
 use Rattle.definition.specs.Tree.{kept}
-use Rattle.definition.specs.Pen.{mark, space, _>>_, nothing, sign, indent}
-use Rattle.definition.specs.Walk.{heads, prop, props, hasProps, colon}
+use Rattle.definition.specs.Pen.{mark, space, sign, indent}
+use Rattle.definition.specs.Walk.{heads, colon}
 use Rattle.definition.specs.declared.Cursor.{Cursor}
 use Rattle.definition.specs.declared.Group.{Group}
 use Rattle.definition.specs.declared.Text.{Text}
 use Rattle.definition.specs.declared.Words.{Words}
-use Rattle.node.specs.declared.Lead.{Lead}
 use Rattle.node.specs.Ends.{Ends}
-use Rattle.node.specs.Total.{keptOf, broughtOf}
+use Rattle.node.specs.Total.{keptOf}
 use Rattle.pen.specs.Pen.{Pen, put1, puts}
-use Rattle.parts.specs.Draws.{Draws, both, of-puts, of-byte, stays}
+use Rattle.parts.specs.Draws.{Draws, both, of-puts, of-byte}
 use Rattle.parts.specs.declared.Entries.the-variants.{Heads}
-use Rattle.parts.specs.Runs.{Short, repeated, hasHeld, has-props-is}
+use Rattle.parts.specs.Runs.{Short, repeated}
 use Rattle.spot.specs.declared.Body.{Body}
 use Rattle.spot.specs.declared.Body.the-variants as body
 use Rattle.spot.specs.declared.Spot.{Spot}
@@ -38,18 +36,6 @@ last-value deck pairs c r e h = record { is = λ pool. rw e (h .tree pool); onwa
 pub last-item : (deck : Bytes) (pairs : Bool) (c : Cursor) → pairs ≡ false → c .at ≤ length deck → LastOf deck pairs c c
 unfolding lastOf
 last-item deck pairs c e h = record { is = λ pool. rw e; onward = omega arith; within = h }
-
--- ---- no tag and no anchor
-
-no-prop : (x y : Option Bytes) {P : Pen} → (isSome x || isSome y) ≡ false → Draws (prop [] x (SP ∷ []) >> prop ('&' ∷ []) y (SP ∷ [])) P P
-unfolding prop isSome
-no-prop none none e = both nothing nothing stays stays
-no-prop none (some t) e = absurd (true≢false e)
-no-prop (some t) y e = absurd (true≢false e)
-
-pub no-props : (pool : Bytes) (l : Lead) (b : Bool) {P : Pen} → b ≡ (hasHeld (l .tag) || hasHeld (l .anchor)) → b ≡ false → Draws (props (broughtOf pool l)) P P
-unfolding props hasProps
-no-props pool l b e f = no-prop (broughtOf pool l .tag) (broughtOf pool l .anchor) (has-props-is pool l ∙ sym e ∙ f)
 
 -- ---- the colon
 

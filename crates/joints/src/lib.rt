@@ -1,7 +1,6 @@
 // What stands between and around the entries of a flow collection, and the marks of a run: in flow, in a key.
 use definition::Cursor;
 use definition::Settings;
-use node::Lead;
 use node::Remark;
 use parts::Entries;
 use pen::Writer;
@@ -14,8 +13,8 @@ ghost use Rattle.definition.specs.Base.{if_then_else_};
 ghost use Rattle.definition.specs.Ascii.{COMMA};
 ghost use Rattle.definition.specs.Pen.{comma, nothing, sign};
 ghost use Rattle.definition.specs.Tree.{kept};
-ghost use Rattle.definition.specs.Walk.{heads, props};
-ghost use Rattle.node.specs.Total.{broughtOf, remarkOf};
+ghost use Rattle.definition.specs.Walk.{heads};
+ghost use Rattle.node.specs.Total.{remarkOf};
 ghost use Rattle.pen.specs.Pen.{pen, ink};
 ghost use Rattle.scripts.specs.Keep.{withFlow, withKey};
 ghost use Rattle.parts.specs.Draws.{Draws};
@@ -34,17 +33,6 @@ pub fn with_key(mut w: Writer, n: usize) -> Writer
     ensures { λ r. ⌜ r ≡ withKey n (pen w []) .w ⌝ }
 {
     w.key = n;
-    w
-}
-
-// `emit_anchor_tag`. A head is large: it is handed on only where it has a tag or an anchor.
-pub fn put_props(w: Writer, pool: &[u8], out: &mut [u8], lead: Lead) -> Writer
-    requires { ⌜ length (now out) < 2 ^ 62 ⌝ }
-    ensures { λ r. ⌜ Draws (props (broughtOf (now (pool .entry)) lead)) (pen w (now (out .entry))) (pen r (now (out .exit))) ⌝ }
-{
-    if parts::has_props(lead) {
-        return parts::put_props(w, pool, out, lead);
-    }
     w
 }
 

@@ -54,7 +54,7 @@ pub fn put_inlined(
     requires { ⌜ (Ready settings (now deck) (now pool) (pen w (now out)) (x .place) i) × Good (now deck) x × (countIn (x .body) < 65536) × (w .flow ≡ 0) × (w .key ≡ 0) ⌝ }
     ensures { λ r. ⌜ Emits settings (inlined (x .place) (keptIn (now (deck .entry)) (now (pool .entry)) x) (broughtIn (now (deck .entry)) (now (pool .entry)) x) (content settings false false i (nodeIn (now (deck .entry)) (now (pool .entry)) x))) (pen w (now (out .entry))) (pen (r .w) (now (out .exit))) (x .place) (endIn (now (deck .entry)) (now (pool .entry)) x) (r .next) (length (now (deck .entry))) ⌝ }
 {
-    let w1 = joints::put_props(w, pool, out, x.lead);
+    let w1 = parts::put_props(w, pool, out, x.lead);
     let e = flow::content(w1, deck, pool, out, settings, x, i);
     let next = e.next;
     let v = parts::put_close(e.w, pool, out, x.place, x.lead);
@@ -122,7 +122,7 @@ pub fn put_key_line(
     ensures { λ r. ⌜ Emits settings (keyLine settings i (broughtIn (now (deck .entry)) (now (pool .entry)) x) (nodeIn (now (deck .entry)) (now (pool .entry)) x)) (pen w (now (out .entry))) (pen (r .w) (now (out .exit))) (x .place) (endIn (now (deck .entry)) (now (pool .entry)) x) (r .next) (length (now (deck .entry))) ⌝ }
 {
     let w1 = w.byte(out, b' ');
-    let w2 = joints::put_props(w1, pool, out, x.lead);
+    let w2 = parts::put_props(w1, pool, out, x.lead);
     let w3 = joints::with_key(w2, 1);
     let e = flow::content(w3, deck, pool, out, settings, x, i);
     let next = e.next;

@@ -3,16 +3,17 @@
 use mathlib.Core.Path.{_≡_, refl, sym, ap, _∙_}
 use Prim.Native.Nat.{ℕ, zero, suc, _+_, _-_, _<_, _≤_, _^_}
 use native.Mathlib.Omega.{arith}
-use mathlib.Core.Bool.{Bool, true, false, not}
+use mathlib.Core.Bool.{Bool, true, false, not, true≢false, _||_}
 use mathlib.Core.List.{[], _∷_, _++_}
+use mathlib.Core.Option.{Option, none, some}
 use lib.Dec.{eqb}
 use borrow.Author.Tests.{eq-eqb, ne-eqb}
 use Rattle.definition.specs.Base.{Bytes, if_then_else_, isSome}
-use Rattle.definition.specs.Ascii.{SP}
+use Rattle.definition.specs.Ascii.{SP, '&'}
 use Rattle.definition.specs.Tree.{Kept}
 use Rattle.definition.specs.Deck.{words, inlineOf, sourceOf}
-use Rattle.definition.specs.Pen.{Script, put, comment, directive, nothing}
-use Rattle.definition.specs.Walk.{prop, directiveOf}
+use Rattle.definition.specs.Pen.{Script, put, comment, directive, _>>_, nothing}
+use Rattle.definition.specs.Walk.{prop, props, hasProps, directiveOf}
 use Rattle.definition.specs.declared.Cursor.{Cursor}
 use Rattle.definition.specs.declared.Settings.{Settings}
 use Rattle.node.specs.declared.Held.{Held}
@@ -24,11 +25,21 @@ use Rattle.node.specs.Total.{heldOf, originOf, remarkOf, keptOf, broughtOf}
 use Rattle.pen.specs.Pen.{Pen, pen, put1, puts, and-then, noteOf, noted, ink}
 use Rattle.parts.specs.declared.Entries.{Entries}
 use Rattle.parts.specs.declared.Entries.the-variants.{Heads, Over, Under, Foots, Directives}
-use Rattle.parts.specs.Draws.{Draws, stays}
+use Rattle.parts.specs.Draws.{Draws, both, stays}
 use Rattle.parts.specs.Lines.{tagFirst}
-use Rattle.parts.specs.Runs.{stride, entry, entries, runOf, repeated, repeated-drawn, Short}
+use Rattle.parts.specs.Runs.{stride, entry, entries, runOf, repeated, repeated-drawn, Short, hasHeld, has-props-is}
 
 -- ---- a part that may be absent
+
+neither : (x y : Option Bytes) {P : Pen} → (isSome x || isSome y) ≡ false → Draws (prop [] x (SP ∷ []) >> prop ('&' ∷ []) y (SP ∷ [])) P P
+unfolding prop isSome
+neither none none e = both nothing nothing stays stays
+neither none (some t) e = absurd (true≢false e)
+neither (some t) y e = absurd (true≢false e)
+
+pub no-props : (pool : Bytes) (l : Lead) (b : Bool) {P : Pen} → b ≡ (hasHeld (l .tag) || hasHeld (l .anchor)) → b ≡ false → Draws (props (broughtOf pool l)) P P
+unfolding props hasProps
+no-props pool l b e f = neither (broughtOf pool l .tag) (broughtOf pool l .anchor) (has-props-is pool l ∙ sym e ∙ f)
 
 pub no-remark : (pool : Bytes) (place : ℕ) (m : Remark) (P : Pen) → m .present ≡ 0 → Draws (comment place (remarkOf pool m)) P P
 unfolding ink noteOf remarkOf

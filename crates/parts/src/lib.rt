@@ -263,13 +263,24 @@ fn put_prop(w: Writer, pool: &[u8], out: &mut [u8], before: &[u8], h: Held, afte
     w2.text(out, after)
 }
 
-// `emit_anchor_tag`
-pub fn put_props(w: Writer, pool: &[u8], out: &mut [u8], lead: Lead) -> Writer
+// The tag and the anchor of a node that has one of them.
+fn put_held(w: Writer, pool: &[u8], out: &mut [u8], lead: Lead) -> Writer
     requires { ⌜ length (now out) < 2 ^ 62 ⌝ }
     ensures { λ r. ⌜ Draws (props (broughtOf (now (pool .entry)) lead)) (pen w (now (out .entry))) (pen r (now (out .exit))) ⌝ }
 {
     let w1 = put_prop(w, pool, out, b"", lead.tag, b" ");
     put_prop(w1, pool, out, b"&", lead.anchor, b" ")
+}
+
+// `emit_anchor_tag`. A head is large: it is handed on only where it has a tag or an anchor.
+pub fn put_props(w: Writer, pool: &[u8], out: &mut [u8], lead: Lead) -> Writer
+    requires { ⌜ length (now out) < 2 ^ 62 ⌝ }
+    ensures { λ r. ⌜ Draws (props (broughtOf (now (pool .entry)) lead)) (pen w (now (out .entry))) (pen r (now (out .exit))) ⌝ }
+{
+    if has_props(lead) {
+        return put_held(w, pool, out, lead);
+    }
+    w
 }
 
 // `emit_anchor_tag_compact`

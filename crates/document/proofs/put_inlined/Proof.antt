@@ -9,7 +9,7 @@ use Rattle.document.proofs.put_inlined.Lts as lts
 use Rattle.choices.proofs.step_of.Reads as step-of-reads
 use Rattle.flow.proofs.content.Reads as content-reads
 use Rattle.parts.proofs.put_close.Reads as put-close-reads
-use Rattle.joints.proofs.put_props.Reads as put-props-reads
+use Rattle.parts.proofs.put_props.Reads as put-props-reads
 
 -- src/lib.rt:154:9
 put-props-requires : tie.Need-put-props-requires

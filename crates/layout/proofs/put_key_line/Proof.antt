@@ -10,7 +10,7 @@ use Rattle.layout.proofs.put_key_line.Reads as reads
 use Rattle.layout.proofs.put_key_line.Lts as lts
 use Rattle.flow.proofs.content.Reads as content-reads
 use Rattle.joints.proofs.with_key.Reads as with-key-reads
-use Rattle.joints.proofs.put_props.Reads as put-props-reads
+use Rattle.parts.proofs.put_props.Reads as put-props-reads
 use Rattle.pen.proofs.Writer.byte.Reads as byte-reads
 use Rattle.pen.proofs.Writer.end_line.Reads as end-line-reads
 

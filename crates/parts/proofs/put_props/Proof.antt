@@ -1,55 +1,31 @@
-use Rattle.definition.specs.Walk.{props}
-use Rattle.node.specs.Total.{broughtOf}
-use Rattle.parts.specs.Draws.{both}
+use Rattle.parts.proofs.Laws.{no-props}
 use borrow.Author.Needs.{needs}
 use Rattle.parts.proofs.put_props.Statement.{statement}
 use Rattle.parts.proofs.put_props.Tie as tie
 use Rattle.parts.proofs.put_props.Reads as reads
 use Rattle.parts.proofs.put_props.Lts as lts
-use Rattle.parts.proofs.put_prop.Reads as put-prop-reads
+use Rattle.parts.proofs.has_props.Reads as has-props-reads
+use Rattle.parts.proofs.put_held.Reads as put-held-reads
 
--- src/lib.rt:211:37
-slice-aggregate-put-prop : tie.Need-slice-aggregate-put-prop
-slice-aggregate-put-prop c = search needs
+-- src/lib.rt:46:8
+has-props-requires : tie.Need-has-props-requires
+has-props-requires c κs = search needs
 
--- src/lib.rt:211:52
-slice-aggregate-put-prop-2 : tie.Need-slice-aggregate-put-prop-2
-slice-aggregate-put-prop-2 c = search needs
+-- src/lib.rt:47:16
+put-held-requires : tie.Need-put-held-requires
+put-held-requires c κs = search needs
 
--- src/lib.rt:211:9
-put-prop-requires : tie.Need-put-prop-requires
-put-prop-requires c κs = search needs
-
--- src/lib.rt:212:29
-slice-aggregate-put-prop-3 : tie.Need-slice-aggregate-put-prop-3
-slice-aggregate-put-prop-3 c = search needs
-
--- src/lib.rt:212:48
-slice-aggregate-put-prop-4 : tie.Need-slice-aggregate-put-prop-4
-slice-aggregate-put-prop-4 c = search needs
-
--- src/lib.rt:212:5
-put-prop-requires-2 : tie.Need-put-prop-requires-2
-put-prop-requires-2 c κs = search needs
-
--- src/lib.rt:207:1
+-- src/lib.rt:47:9
 same-length : tie.Need-same-length
 same-length c = search needs
 
--- src/lib.rt:207:1
+-- src/lib.rt:47:9
 returns : tie.Need-returns
-unfolding props broughtOf
-returns c = both _ _ (c .before .before .before .before .before .before .before .before .put-prop .ensures) (c .before .before .put-prop2 .ensures)
+returns c = c .before .before .put-held .ensures
+
+-- src/lib.rt:41:1
+returns-2 : tie.Need-returns-2
+returns-2 c = no-props _ _ _ (c .before .has-props .ensures) (c .if1 .left)
 
 pub put-props-spec : {M : Type 1} → statement M
-put-props-spec =
-    tie.close
-    (tie.spec
-    slice-aggregate-put-prop
-    slice-aggregate-put-prop-2
-    put-prop-requires
-    slice-aggregate-put-prop-3
-    slice-aggregate-put-prop-4
-    put-prop-requires-2
-    same-length
-    returns)
+put-props-spec = tie.close (tie.spec has-props-requires put-held-requires same-length returns returns-2)
