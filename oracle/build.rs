@@ -1,5 +1,5 @@
 //! Finds the Rust source of YAMLRocks and writes the declarations by which it is compiled, unchanged, into this library. Where RASSEMOK_ARCHIVE
-//! names the port's archive, it is linked, and the library is told which of the calls it has.
+//! names the port's archive, the library is told which of the calls it has, and the archive is linked, or reached in a process of its own.
 
 use std::path::{Path, PathBuf};
 use std::{env, fs, process};
@@ -39,13 +39,14 @@ fn main() {
     if let Err(error) = fs::write(out.join("yamlrocks.rs"), text) {
         fail(&format!("The declarations cannot be written: {error}."));
     }
-    link_archive();
+    find_archive();
 }
 
-/// Sets `archive` and, for each call that is there, `archive_has`.
-fn link_archive() {
+/// Sets `archive_has` for each call that is there, and `archive` where the archive is linked, `archive_apart` where it is not.
+fn find_archive() {
     println!("cargo:rerun-if-env-changed=RASSEMOK_ARCHIVE");
-    println!("cargo:rustc-check-cfg=cfg(archive)");
+    println!("cargo:rerun-if-env-changed=RASSEMOK_APART");
+    println!("cargo:rustc-check-cfg=cfg(archive, archive_apart)");
     println!(
         "cargo:rustc-check-cfg=cfg(archive_has, values({}))",
         quoted(&CALLS)
@@ -61,7 +62,6 @@ fn link_archive() {
         ));
     };
     println!("cargo:rerun-if-changed={}", path.display());
-    println!("cargo:rustc-cfg=archive");
     for call in CALLS {
         // In tables of symbols a name ends with a zero.
         let symbol = format!("rassemok_{call}\0").into_bytes();
@@ -69,9 +69,20 @@ fn link_archive() {
             println!("cargo:rustc-cfg=archive_has={call:?}");
         }
     }
+    if is_apart() {
+        println!("cargo:rustc-cfg=archive_apart");
+        return;
+    }
+    println!("cargo:rustc-cfg=archive");
     let folder = path.parent().expect("a file has a folder");
     println!("cargo:rustc-link-search=native={}", folder.display());
     println!("cargo:rustc-link-lib=static=rassemok");
+}
+
+/// The archive is for x86-64: nothing else links it. RASSEMOK_APART asks for the process there too.
+fn is_apart() -> bool {
+    let machine = env::var("CARGO_CFG_TARGET_ARCH").expect("cargo sets CARGO_CFG_TARGET_ARCH");
+    machine != "x86_64" || env::var_os("RASSEMOK_APART").is_some_and(|asked| !asked.is_empty())
 }
 
 fn quoted(words: &[&str]) -> String {

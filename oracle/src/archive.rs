@@ -1,4 +1,5 @@
-//! The port's archive, where one is linked (RASSEMOK_ARCHIVE at the build): each call with its whole outcome, as `calls` gives the Rust's.
+//! The port's archive, where there is one (RASSEMOK_ARCHIVE at the build), linked or in a process of its own (`apart`): each call with its whole
+//! outcome, as `calls` gives the Rust's.
 
 use crate::calls::{Call, Change, Lent, Outcome, Settings};
 use crate::encode::NullStyle;
@@ -28,7 +29,7 @@ pub struct Options {
 }
 
 #[repr(C)]
-#[derive(Debug, Clone, Copy, Default)]
+#[derive(Debug, Clone, Copy, PartialEq, Eq, Default)]
 pub struct Entry {
     pub id: usize,
     pub start: usize,
@@ -101,7 +102,7 @@ mod calls_of_it {
     }
 }
 
-/// The names of the calls that the linked archive has; none where no archive is linked.
+/// The names of the calls that the archive has; none where there is no archive.
 pub fn names() -> Vec<&'static str> {
     let all = [
         ("emit_roundtrip", cfg!(archive_has = "emit_roundtrip")),
@@ -198,7 +199,21 @@ pub fn options(settings: &Settings) -> Options {
     }
 }
 
+/// The call itself, in the process.
+#[cfg(archive_apart)]
+pub fn answer(
+    call: &Call,
+    deck: &[u8],
+    pool: &[u8],
+    output: &mut [u8],
+    list: &mut [Entry],
+) -> Answer {
+    assert!(has(call), "The archive has no {}.", name(call));
+    crate::apart::answer(call, deck, pool, output, list)
+}
+
 /// The call itself.
+#[cfg(not(archive_apart))]
 #[allow(unused_variables, unreachable_code)]
 pub fn answer(
     call: &Call,

@@ -2,6 +2,7 @@
 //! and the calls of document 01 around it. It says what the port must answer, for any input.
 
 pub mod antt;
+pub mod apart;
 pub mod archive;
 pub mod calls;
 pub mod damage;
