@@ -16,8 +16,7 @@ use Rattle.definition.specs.declared.Record.the-variants as is
 use Rattle.deck.specs.Next.{nextOf}
 use Rattle.deck.specs.Outcome.{Sound, Outcome, bad, good, outcome, next-past}
 use Rattle.node.specs.declared.Lead.{Lead}
-use Rattle.node.specs.declared.Head.{Head}
-use Rattle.node.specs.Head.{addTo, headed, headFrom, headAt, noLead}
+use Rattle.node.specs.Head.{Head, addTo, headed, headFrom, headAt, noLead}
 use Rattle.node.specs.Total.{Got, keptOf, broughtOf, itemsFrom, pairsFrom, shape, shapeOf, nodeFrom, treeAt, treesFrom, treesOf}
 use Rattle.agree.specs.Runs.{Fits, fits-more, fits-none}
 
@@ -42,7 +41,7 @@ gives-at {P = P} (got x i) a e (gives-got h) q = let u : x ≡ a = cc in let v :
 -- a head says what the definition's reader found
 record Same (deck pool : Bytes) (c : Cursor) (h : Head) (w : Whole) (e : Cursor) : Type 0 where
   kept : keptOf deck pool (h .lead) ≡ w .kept
-  brought : broughtOf pool (h .lead) ≡ w .brought
+  brought : broughtOf deck pool (h .lead) ≡ w .brought
   own : h .own ≡ w .own
   place : h .place .at ≡ w .place
   next : h .next ≡ e

@@ -74,7 +74,7 @@ ready-own {k} {s} {last} {c} {r} l y = record { same = λ e. go (r .count) (r .f
 -- the head so far says what the definition's reader has so far
 pub record Fits (deck pool : Bytes) (last : ℕ) (c : Cursor) (l : Lead) (a : Kept) (b : Brought) : Type 0 where
   pub kept : keptOf deck pool l ≡ a
-  pub brought : broughtOf pool l ≡ b
+  pub brought : broughtOf deck pool l ≡ b
   pub heads : Ready 4 6 last c (l .heads)
   pub foots : Ready 6 5 last c (l .foots)
   pub directives : Ready 8 5 last c (l .directives)
@@ -129,18 +129,22 @@ leading deck c k l u =
     split 8 l7 (λ h. rw h directive) (λ l8.
     split 9 l8 (λ h. rw h layout) (λ l9. absurd (omega arith))))))))))
 
+-- the place of a record's body is not 0
+there : (c : Cursor) → eqb (c .at + 1) 0 ≡ false
+there c = ne-eqb (c .at + 1) 0 (λ e. absurd (omega (arith, e)))
+
 module _ (deck pool : Bytes) (last : ℕ) (c : Cursor) (l : Lead) (a : Kept) (b : Brought) where
   fits-step :
       (k : ℕ) (r : Record) → Leading deck c k r → last ≤ k → Fits deck pool last c l a b →
       Fits deck pool k (on c (sizeOf k)) (addTo r c l) (keep pool r a) (bring pool r b)
   unfolding addTo keep bring keptOf broughtOf heldOf originOf remarkOf onto commentAt textOf sizeOf
-  fits-step k r tag h y = record { kept = rw (← (y .kept)); brought = rw (← (y .brought)); heads = ready-other 1 (on c 5) (λ z. absurd (omega arith)) h (y .heads); foots = ready-other 1 (on c 5) (λ z. absurd (omega arith)) h (y .foots); directives = ready-other 1 (on c 5) (λ z. absurd (omega arith)) h (y .directives) }
-  fits-step k r anchor h y = record { kept = rw (← (y .kept)); brought = rw (← (y .brought)); heads = ready-other 2 (on c 5) (λ z. absurd (omega arith)) h (y .heads); foots = ready-other 2 (on c 5) (λ z. absurd (omega arith)) h (y .foots); directives = ready-other 2 (on c 5) (λ z. absurd (omega arith)) h (y .directives) }
-  fits-step k r include h y = record { kept = rw (← (y .kept)); brought = rw (← (y .brought)); heads = ready-other 3 (on c 14) (λ z. absurd (omega arith)) h (y .heads); foots = ready-other 3 (on c 14) (λ z. absurd (omega arith)) h (y .foots); directives = ready-other 3 (on c 14) (λ z. absurd (omega arith)) h (y .directives) }
+  fits-step k r tag h y = record { kept = rw (← (y .kept)); brought = rw (← (y .brought), there c); heads = ready-other 1 (on c 5) (λ z. absurd (omega arith)) h (y .heads); foots = ready-other 1 (on c 5) (λ z. absurd (omega arith)) h (y .foots); directives = ready-other 1 (on c 5) (λ z. absurd (omega arith)) h (y .directives) }
+  fits-step k r anchor h y = record { kept = rw (← (y .kept)); brought = rw (← (y .brought), there c); heads = ready-other 2 (on c 5) (λ z. absurd (omega arith)) h (y .heads); foots = ready-other 2 (on c 5) (λ z. absurd (omega arith)) h (y .foots); directives = ready-other 2 (on c 5) (λ z. absurd (omega arith)) h (y .directives) }
+  fits-step k r include h y = record { kept = rw (← (y .kept), there c); brought = rw (← (y .brought)); heads = ready-other 3 (on c 14) (λ z. absurd (omega arith)) h (y .heads); foots = ready-other 3 (on c 14) (λ z. absurd (omega arith)) h (y .foots); directives = ready-other 3 (on c 14) (λ z. absurd (omega arith)) h (y .directives) }
   fits-step k r head h y = record { kept = rw (← (y .kept), run-more (commentAt deck pool) 6 (l .heads .count) (l .heads .first) c (ready-ends h (y .heads))); brought = rw (← (y .brought)); heads = ready-own h (y .heads); foots = ready-other 4 (on c 6) (λ z. absurd (omega arith)) h (y .foots); directives = ready-other 4 (on c 6) (λ z. absurd (omega arith)) h (y .directives) }
-  fits-step k r inline h y = record { kept = rw (← (y .kept)); brought = rw (← (y .brought)); heads = ready-other 5 (on c 6) (λ z. absurd (omega arith)) h (y .heads); foots = ready-other 5 (on c 6) (λ z. absurd (omega arith)) h (y .foots); directives = ready-other 5 (on c 6) (λ z. absurd (omega arith)) h (y .directives) }
+  fits-step k r inline h y = record { kept = rw (← (y .kept), there c); brought = rw (← (y .brought)); heads = ready-other 5 (on c 6) (λ z. absurd (omega arith)) h (y .heads); foots = ready-other 5 (on c 6) (λ z. absurd (omega arith)) h (y .foots); directives = ready-other 5 (on c 6) (λ z. absurd (omega arith)) h (y .directives) }
   fits-step k r foot h y = record { kept = rw (← (y .kept), run-more (textOf deck pool) 5 (l .foots .count) (l .foots .first) c (ready-ends h (y .foots))); brought = rw (← (y .brought)); heads = ready-other 6 (on c 5) (λ z. absurd (omega arith)) h (y .heads); foots = ready-own h (y .foots); directives = ready-other 6 (on c 5) (λ z. absurd (omega arith)) h (y .directives) }
-  fits-step k r raw h y = record { kept = rw (← (y .kept)); brought = rw (← (y .brought)); heads = ready-other 7 (on c 5) (λ z. absurd (omega arith)) h (y .heads); foots = ready-other 7 (on c 5) (λ z. absurd (omega arith)) h (y .foots); directives = ready-other 7 (on c 5) (λ z. absurd (omega arith)) h (y .directives) }
+  fits-step k r raw h y = record { kept = rw (← (y .kept)); brought = rw (← (y .brought), there c); heads = ready-other 7 (on c 5) (λ z. absurd (omega arith)) h (y .heads); foots = ready-other 7 (on c 5) (λ z. absurd (omega arith)) h (y .foots); directives = ready-other 7 (on c 5) (λ z. absurd (omega arith)) h (y .directives) }
   fits-step k r directive h y = record { kept = rw (← (y .kept), run-more (textOf deck pool) 5 (l .directives .count) (l .directives .first) c (ready-ends h (y .directives))); brought = rw (← (y .brought)); heads = ready-other 8 (on c 5) (λ z. absurd (omega arith)) h (y .heads); foots = ready-other 8 (on c 5) (λ z. absurd (omega arith)) h (y .foots); directives = ready-own h (y .directives) }
   fits-step k r layout h y = record { kept = rw (← (y .kept)); brought = rw (← (y .brought)); heads = ready-other 9 (on c 6) (λ z. absurd (omega arith)) h (y .heads); foots = ready-other 9 (on c 6) (λ z. absurd (omega arith)) h (y .foots); directives = ready-other 9 (on c 6) (λ z. absurd (omega arith)) h (y .directives) }
 

@@ -9,6 +9,7 @@ use lib.ListN.{length, take, drop, length-drop}
 use borrow.Author.Tests.{eq-eqb, ne-eqb}
 use Rattle.definition.specs.Base.{Bytes}
 use Rattle.definition.specs.Ascii.{'*'}
+use Rattle.definition.specs.Records.{textAt}
 use Rattle.definition.specs.Scalar.{markerOf}
 use Rattle.definition.specs.Deck.{words}
 use Rattle.definition.specs.Pen.{Script}
@@ -41,29 +42,29 @@ starred pool x P t e f g = rw (← e) (g ∙ ap (puts t) f)
 
 -- a scalar that is not replayed: with a comment on its header, and otherwise
 pub with-comment :
-    (s : Settings) (flow key : Bool) (i p : ℕ) (pool : Bytes) (m : Remark) (x : Text) (y : Style) {t : Bytes} {marker : ℕ} {r : Bool} {P Q : Pen}
-    → r ≡ (on (m .present) && isBlockStyle y && not flow) → r ≡ true → t ≡ words pool x → marker ≡ markerOf y
-    → Draws (commented marker i p (remarkOf pool m) t) P Q → Q ≡ ink s (freshIn flow key i p (remarkOf pool m) (words pool x) y) P
+    (s : Settings) (flow key : Bool) (i p : ℕ) (deck pool : Bytes) (m : Remark) (x : Text) (y : Style) {t : Bytes} {marker : ℕ} {r : Bool} {P Q : Pen}
+    → r ≡ (on (m .at) && isBlockStyle y && not flow) → r ≡ true → t ≡ words pool x → marker ≡ markerOf y
+    → Draws (commented marker i p (remarkOf deck pool m) t) P Q → Q ≡ ink s (freshIn flow key i p (remarkOf deck pool m) (words pool x) y) P
 unfolding freshIn
-with-comment s flow key i p pool m x y e f g h d = rw (remark-some pool m, ← e, f, ← g, ← h) (d .drawn s)
+with-comment s flow key i p deck pool m x y e f g h d = rw (remark-some deck pool m, ← e, f, ← g, ← h) (d .drawn s)
 
 pub without-comment :
-    (s : Settings) (flow key : Bool) (i p : ℕ) (pool : Bytes) (m : Remark) (x : Text) (y : Style) (P : Pen) {Q : Pen} {t : Bytes} {r : Bool}
-    → r ≡ (on (m .present) && isBlockStyle y && not flow) → r ≡ false → t ≡ words pool x
-    → Q ≡ puts (scalarBytes s flow key t y i (P .w .column)) P → Q ≡ ink s (freshIn flow key i p (remarkOf pool m) (words pool x) y) P
+    (s : Settings) (flow key : Bool) (i p : ℕ) (deck pool : Bytes) (m : Remark) (x : Text) (y : Style) (P : Pen) {Q : Pen} {t : Bytes} {r : Bool}
+    → r ≡ (on (m .at) && isBlockStyle y && not flow) → r ≡ false → t ≡ words pool x
+    → Q ≡ puts (scalarBytes s flow key t y i (P .w .column)) P → Q ≡ ink s (freshIn flow key i p (remarkOf deck pool m) (words pool x) y) P
 unfolding freshIn ink
-without-comment s flow key i p pool m x y P e f g d = rw (remark-some pool m, ← e, f, ← g) d
+without-comment s flow key i p deck pool m x y P e f g d = rw (remark-some deck pool m, ← e, f, ← g) d
 
 -- a raw text: absent, put aside, replayed
-module _ (s : Settings) (p : ℕ) (pool : Bytes) (h : Held) (modified : Bool) (a : Script) (P : Pen) {Q : Pen} where
-  pub no-raw : h .present ≡ 0 → Q ≡ ink s a P → Q ≡ ink s (replays p (heldOf pool h) modified a) P
+module _ (s : Settings) (p : ℕ) (deck pool : Bytes) (h : Held) (modified : Bool) (a : Script) (P : Pen) {Q : Pen} where
+  pub no-raw : h .at ≡ 0 → Q ≡ ink s a P → Q ≡ ink s (replays p (heldOf deck pool h) modified a) P
   unfolding replays heldOf
   no-raw e d = rw (eq-eqb _ _ e) d
 
-  pub aside : (h .present ≡ 0 → ⊥) → modified ≡ true → Q ≡ ink s a P → Q ≡ ink s (replays p (heldOf pool h) modified a) P
+  pub aside : (h .at ≡ 0 → ⊥) → modified ≡ true → Q ≡ ink s a P → Q ≡ ink s (replays p (heldOf deck pool h) modified a) P
   unfolding replays heldOf
   aside e f d = rw (ne-eqb _ _ e, f) d
 
-  pub again : {t : Bytes} → (h .present ≡ 0 → ⊥) → modified ≡ false → t ≡ words pool (h .text) → Q ≡ rawed t P → Q ≡ ink s (replays p (heldOf pool h) modified a) P
+  pub again : {t : Bytes} {x : Text} → (h .at ≡ 0 → ⊥) → modified ≡ false → x ≡ textAt deck (h .at) → t ≡ words pool x → Q ≡ rawed t P → Q ≡ ink s (replays p (heldOf deck pool h) modified a) P
   unfolding replays heldOf ink
-  again e f g d = rw (ne-eqb _ _ e, f, ← g) d
+  again e f k g d = rw (ne-eqb _ _ e, f, ← k, ← g) d

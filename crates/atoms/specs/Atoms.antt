@@ -10,6 +10,7 @@ use Rattle.definition.specs.Ascii.{'~'}
 use Rattle.definition.specs.Block.{blockHeader, blockBody}
 use Rattle.definition.specs.Settings.{isTilde}
 use Rattle.definition.specs.Scalar.{markerOf}
+use Rattle.definition.specs.Records.{trailerAt}
 use Rattle.definition.specs.Tree.{Inline, Kept}
 use Rattle.definition.specs.Deck.{marked, layoutOf, inlineOf}
 use Rattle.definition.specs.Pen.{text, Script, put, comment, leaf, _>>_}
@@ -46,10 +47,10 @@ unfolding fresh freshIn commented
 fresh-in flow key i p a t y = refl
 
 -- an inline comment is there
-pub remark-some : (pool : Bytes) (m : Remark) → isSome (remarkOf pool m) ≡ on (m .present)
+pub remark-some : (deck pool : Bytes) (m : Remark) → isSome (remarkOf deck pool m) ≡ on (m .at)
 unfolding on remarkOf isSome
-remark-some pool m = go (eqb (m .present) 0)
+remark-some deck pool m = go (eqb (m .at) 0)
   where
-    go : (b : Bool) → isSome (if b then none else some (inlineOf pool (m .trailer))) ≡ not b
+    go : (b : Bool) → isSome (if b then none else some (inlineOf pool (trailerAt deck (m .at)))) ≡ not b
     go true = refl
     go false = refl

@@ -94,9 +94,9 @@ fn marker_of(style: Style) -> u8
 
 // The inline comment goes on a block scalar's header.
 fn is_on_header(remark: Remark, style: Style, flow: bool) -> bool
-    ensures { λ r. ⌜ r ≡ (on (remark .present) && isBlockStyle style && not flow) ⌝ }
+    ensures { λ r. ⌜ r ≡ (on (remark .at) && isBlockStyle style && not flow) ⌝ }
 {
-    if remark.present == 0 {
+    if remark.at == 0 {
         return false;
     }
     if is_block_style(style) {
@@ -108,6 +108,7 @@ fn is_on_header(remark: Remark, style: Style, flow: bool) -> bool
 // A block scalar with an inline comment on its header.
 fn put_commented(
     w: Writer,
+    deck: &[u8],
     pool: &[u8],
     out: &mut [u8],
     marker: u8,
@@ -117,16 +118,17 @@ fn put_commented(
     t: &[u8],
 ) -> Writer
     requires { ⌜ (length (now out) < 2 ^ 62) × (place < 2 ^ 62) ⌝ }
-    ensures { λ r. ⌜ Draws (commented marker i place (remarkOf (now (pool .entry)) remark) (now (t .entry))) (pen w (now (out .entry))) (pen r (now (out .exit))) ⌝ }
+    ensures { λ r. ⌜ Draws (commented marker i place (remarkOf (now (deck .entry)) (now (pool .entry)) remark) (now (t .entry))) (pen w (now (out .entry))) (pen r (now (out .exit))) ⌝ }
 {
     let w1 = put_header(w, out, t, marker);
-    let w2 = put_remark(w1, pool, out, place, remark);
+    let w2 = put_remark(w1, deck, pool, out, place, remark);
     put_block_body(w2, out, t, i)
 }
 
 // A scalar that is not replayed.
 fn put_fresh(
     w: Writer,
+    deck: &[u8],
     pool: &[u8],
     out: &mut [u8],
     settings: Settings,
@@ -137,7 +139,7 @@ fn put_fresh(
 ) -> Writer
     requires { ⌜ (length (now out) < 2 ^ 62) × (length (now pool) ≤ 65536) × (place < 2 ^ 62) × (w .column < 2 ^ 63) ⌝ }
     ensures { λ r. ⌜ pen r (now (out .exit)) ≡ ink settings
-        (freshIn (on (w .flow)) (on (w .key)) i place (remarkOf (now (pool .entry)) remark) (words (now (pool .entry)) (said .text)) (said .style))
+        (freshIn (on (w .flow)) (on (w .key)) i place (remarkOf (now (deck .entry)) (now (pool .entry)) remark) (words (now (pool .entry)) (said .text)) (said .style))
         (pen w (now (out .entry))) ⌝ }
 {
     let flow = w.flow != 0;
@@ -145,7 +147,7 @@ fn put_fresh(
     let style = said.style;
     let t = deck::words_of(pool, said.text);
     if is_on_header(remark, style, flow) {
-        return put_commented(w, pool, out, marker_of(style), i, place, remark, t);
+        return put_commented(w, deck, pool, out, marker_of(style), i, place, remark, t);
     }
     put_scalar(w, out, settings, flow, key, t, style, i)
 }
@@ -153,6 +155,7 @@ fn put_fresh(
 // A scalar: its raw text is replayed unless the node is modified.
 pub fn put_words(
     w: Writer,
+    deck: &[u8],
     pool: &[u8],
     out: &mut [u8],
     settings: Settings,
@@ -165,15 +168,15 @@ pub fn put_words(
 ) -> Writer
     requires { ⌜ (length (now out) < 2 ^ 62) × (length (now pool) ≤ 65536) × (place < 2 ^ 62) × (w .column < 2 ^ 63) × (w .len < 2 ^ 62) ⌝ }
     ensures { λ r. ⌜ pen r (now (out .exit)) ≡ ink settings
-        (replays place (heldOf (now (pool .entry)) raw) modified
-        (freshIn (on (w .flow)) (on (w .key)) i place (remarkOf (now (pool .entry)) remark) (words (now (pool .entry)) (said .text)) (said .style)))
+        (replays place (heldOf (now (deck .entry)) (now (pool .entry)) raw) modified
+        (freshIn (on (w .flow)) (on (w .key)) i place (remarkOf (now (deck .entry)) (now (pool .entry)) remark) (words (now (pool .entry)) (said .text)) (said .style)))
         (pen w (now (out .entry))) ⌝ }
 {
-    if raw.present == 0 {
-        return put_fresh(w, pool, out, settings, i, place, remark, said);
+    if raw.at == 0 {
+        return put_fresh(w, deck, pool, out, settings, i, place, remark, said);
     }
     if modified {
-        return put_fresh(w, pool, out, settings, i, place, remark, said);
+        return put_fresh(w, deck, pool, out, settings, i, place, remark, said);
     }
-    w.replay(out, deck::words_of(pool, raw.text))
+    w.replay(out, deck::words_of(pool, deck::text_in(deck, raw.at)))
 }

@@ -218,7 +218,7 @@ module _ (s : Settings) (deck pool : Bytes) where
 
   pub key-below-block :
       (i j n : ℕ) (r : Cursor) (x : Spot) (b : Bool) {P₀ P₁ P₂ P₃ : Pen} → n ≡ stepOf s → j ≡ i + n → b ≡ blockIn (x .body) → b ≡ true
-      → Draws (propsCompact (broughtOf pool (x .lead))) P₀ P₁ → P₂ ≡ put1 P₁ LF → Emits s (members s j true (kindIn deck pool x)) P₂ P₃ (x .place) (endIn deck pool x) r (length deck)
+      → Draws (propsCompact (broughtOf deck pool (x .lead))) P₀ P₁ → P₂ ≡ put1 P₁ LF → Emits s (members s j true (kindIn deck pool x)) P₂ P₃ (x .place) (endIn deck pool x) r (length deck)
       → Emits s (keyBelow s i (nodeIn deck pool x)) P₀ P₃ (x .place) (endIn deck pool x) r (length deck)
   unfolding keyBelow nodeIn newline
   key-below-block i j n r x b h k f t d p m = emits-yes _ _ _ (block-is deck pool (x .body) (x .next) ∙ sym f ∙ t) (drawn-first _ _ d (drawn-first _ _ (of-byte space LF p) (rw (k, h) at m)))

@@ -184,7 +184,7 @@ fn put_question(
     let body = x.body;
     let j = i + choices::step_of(settings);
     if choices::is_block(body) {
-        let w1 = parts::put_props_compact(w, pool, out, x.lead);
+        let w1 = parts::put_props_compact(w, deck, pool, out, x.lead);
         let w2 = w1.byte(out, b'\n');
         return put_members(w2, deck, pool, out, settings, x, j, true);
     }

@@ -22,6 +22,7 @@ use Rattle.node.specs.declared.Lead.{Lead}
 use Rattle.node.specs.declared.Origin.{Origin}
 use Rattle.node.specs.declared.Remark.{Remark}
 use Rattle.node.specs.Comments.{commented}
+use Rattle.definition.specs.Records.{includeAt}
 use Rattle.node.specs.Total.{Got, keptOf, broughtOf, originOf, runFrom, itemsFrom, pairsFrom, treeAt}
 use Rattle.parts.specs.Runs.{hasHeld, held-some, has-props-is}
 use Rattle.spot.specs.declared.Body.{Body}
@@ -130,7 +131,7 @@ unfoldable pub explicitIn : Bool → Lead → Body → Bool
 explicitIn first l b = needsIn (l .lines) b || (not first && marked (l .lines .marks) 8 && (hasHeld (l .tag) || hasHeld (l .anchor)))
 
 unfoldable pub includedIn : Origin → Bool
-includedIn o = on (o .present)
+includedIn o = on (o .at)
 
 module _ (deck pool : Bytes) where
   pub comments-is : (x : Spot) → hasComments (nodeIn deck pool x) ≡ commented (x .lead)
@@ -151,9 +152,9 @@ module _ (deck pool : Bytes) where
 
   pub included-is : (l : Lead) → included (keptOf deck pool l) ≡ includedIn (l .origin)
   unfolding included keptOf originOf isSome includedIn on
-  included-is l = go (eqb (l .origin .present) 0)
+  included-is l = go (eqb (l .origin .at) 0)
     where
-      go : (b : Bool) → isSome (if b then none else some (sourceOf pool (l .origin .include))) ≡ not b
+      go : (b : Bool) → isSome (if b then none else some (sourceOf pool (includeAt deck (l .origin .at)))) ≡ not b
       go true = refl
       go false = refl
 
@@ -164,7 +165,7 @@ unfoldable pub editedIn : Lines → Body → Bool
 editedIn l b = marked (l .marks) 8 && noneIn b
 
 unfoldable pub bareIn : Settings → Bytes → Lines → Remark → Body → Bool
-bareIn s pool l m b = emptyIn pool b && not (on (m .present)) && (not (editedIn l b) || isEmptyStyle (s .«null_style»))
+bareIn s pool l m b = emptyIn pool b && not (on (m .at)) && (not (editedIn l b) || isEmptyStyle (s .«null_style»))
 
 -- a sequence stands at its key's column
 unfoldable pub flushIn : Settings → Lines → Held → ℕ → Bool
@@ -178,21 +179,21 @@ itemColumnIn s tag anchor i b = if (hasHeld tag || hasHeld anchor) && not (seque
 
 unfoldable pub onDashLineIn : Lines → Held → Held → Remark → Body → Bool
 onDashLineIn l tag anchor m b =
-    not (hasHeld tag || hasHeld anchor) && (if sequenceIn b then marked (l .marks) 4 else not (on (m .present) || marked (l .marks) 2))
+    not (hasHeld tag || hasHeld anchor) && (if sequenceIn b then marked (l .marks) 4 else not (on (m .at) || marked (l .marks) 2))
 
 unfoldable pub rootColumnIn : Settings → Lines → Held → Body → ℕ
 rootColumnIn s l tag b = if marked (l .marks) 8 && hasHeld tag && not (sequenceIn b && s .indentless) then stepOf s else 0
 
 unfoldable pub bareRootIn : Settings → Lines → Remark → Held → Held → Body → Bool
 bareRootIn s l m tag anchor b =
-    noneIn b && marked (l .marks) 8 && hasHeld tag && not (on (m .present)) && not (hasHeld anchor) && isEmptyStyle (s .«null_style»)
+    noneIn b && marked (l .marks) 8 && hasHeld tag && not (on (m .at)) && not (hasHeld anchor) && isEmptyStyle (s .«null_style»)
 
 module _ (s : Settings) (deck pool : Bytes) (l : Lead) where
   pub bare-is : (b : Body) (c : Cursor) → bare s (keptOf deck pool l) (kindOf deck pool b c) ≡ bareIn s pool (l .lines) (l .remark) b
   unfolding bare keptOf layoutOf bareIn editedIn
   bare-is b c = rw (empty-is deck pool b c, null-is deck pool b c, remark-some)
 
-  pub value-column-is : (i : ℕ) (b : Body) (c : Cursor) → valueColumn s (keptOf deck pool l) (broughtOf pool l) i (kindOf deck pool b c) ≡ valueColumnIn s (l .lines) (l .tag) i b
+  pub value-column-is : (i : ℕ) (b : Body) (c : Cursor) → valueColumn s (keptOf deck pool l) (broughtOf deck pool l) i (kindOf deck pool b c) ≡ valueColumnIn s (l .lines) (l .tag) i b
   unfolding valueColumn keptOf broughtOf layoutOf valueColumnIn flushIn
   value-column-is i b c = rw (sequence-is deck pool b c, held-some) (go (sequenceIn b) (s .«indent_sequences») (s .indentless && not (hasHeld (l .tag))) (leb (l .lines .column) i))
     where
@@ -204,18 +205,18 @@ module _ (s : Settings) (deck pool : Bytes) (l : Lead) where
       go true false f g = refl
       go false d f g = refl
 
-  pub item-column-is : (i : ℕ) (b : Body) (c : Cursor) → itemColumn s (broughtOf pool l) i (kindOf deck pool b c) ≡ itemColumnIn s (l .tag) (l .anchor) i b
+  pub item-column-is : (i : ℕ) (b : Body) (c : Cursor) → itemColumn s (broughtOf deck pool l) i (kindOf deck pool b c) ≡ itemColumnIn s (l .tag) (l .anchor) i b
   unfolding itemColumn itemColumnIn
   item-column-is i b c = rw (sequence-is deck pool b c, has-props-is)
 
-  pub on-dash-line-is : (b : Body) (c : Cursor) → onDashLine s (keptOf deck pool l) (broughtOf pool l) (kindOf deck pool b c) ≡ onDashLineIn (l .lines) (l .tag) (l .anchor) (l .remark) b
+  pub on-dash-line-is : (b : Body) (c : Cursor) → onDashLine s (keptOf deck pool l) (broughtOf deck pool l) (kindOf deck pool b c) ≡ onDashLineIn (l .lines) (l .tag) (l .anchor) (l .remark) b
   unfolding onDashLine keptOf layoutOf onDashLineIn
   on-dash-line-is b c = rw (sequence-is deck pool b c, has-props-is, remark-some)
 
-  pub root-column-is : (b : Body) (c : Cursor) → rootColumn s (keptOf deck pool l) (broughtOf pool l) (kindOf deck pool b c) ≡ rootColumnIn s (l .lines) (l .tag) b
+  pub root-column-is : (b : Body) (c : Cursor) → rootColumn s (keptOf deck pool l) (broughtOf deck pool l) (kindOf deck pool b c) ≡ rootColumnIn s (l .lines) (l .tag) b
   unfolding rootColumn keptOf broughtOf layoutOf rootColumnIn
   root-column-is b c = rw (sequence-is deck pool b c, held-some)
 
-  pub bare-root-is : (b : Body) (c : Cursor) → bareRoot s (keptOf deck pool l) (broughtOf pool l) (kindOf deck pool b c) ≡ bareRootIn s (l .lines) (l .remark) (l .tag) (l .anchor) b
+  pub bare-root-is : (b : Body) (c : Cursor) → bareRoot s (keptOf deck pool l) (broughtOf deck pool l) (kindOf deck pool b c) ≡ bareRootIn s (l .lines) (l .remark) (l .tag) (l .anchor) b
   unfolding bareRoot keptOf broughtOf layoutOf bareRootIn
   bare-root-is b c = rw (null-is deck pool b c, held-some, held-some, remark-some)

@@ -13,6 +13,7 @@ use node::Lead;
 use node::Origin;
 use node::Remark;
 use parts::has_props;
+use parts::is_either;
 use parts::is_marked;
 use spot::Body;
 ghost use mathlib.Core.Path.{_≡_};
@@ -123,7 +124,7 @@ pub fn is_empty_scalar(body: Body, pool: &[u8]) -> bool
 pub fn is_included(origin: Origin) -> bool
     ensures { λ r. ⌜ r ≡ includedIn origin ⌝ }
 {
-    origin.present != 0
+    origin.at != 0
 }
 
 fn is_explicit_scalar(lines: Lines, said: Words) -> bool
@@ -188,9 +189,9 @@ fn is_edited(lines: Lines, body: Body) -> bool
 }
 
 fn is_silent(settings: Settings, lines: Lines, remark: Remark, body: Body) -> bool
-    ensures { λ r. ⌜ r ≡ (not (on (remark .present)) && (not (editedIn lines body) || isEmptyStyle (settings .«null_style»))) ⌝ }
+    ensures { λ r. ⌜ r ≡ (not (on (remark .at)) && (not (editedIn lines body) || isEmptyStyle (settings .«null_style»))) ⌝ }
 {
-    if remark.present != 0 {
+    if remark.at != 0 {
         return false;
     }
     if is_edited(lines, body) {
@@ -223,16 +224,7 @@ pub fn step_of(settings: Settings) -> usize
 fn is_held(h: Held) -> bool
     ensures { λ r. ⌜ r ≡ hasHeld h ⌝ }
 {
-    h.present != 0
-}
-
-fn is_held_either(tag: Held, anchor: Held) -> bool
-    ensures { λ r. ⌜ r ≡ (hasHeld tag || hasHeld anchor) ⌝ }
-{
-    if is_held(tag) {
-        return true;
-    }
-    is_held(anchor)
+    h.at != 0
 }
 
 // A sequence stands at its key's column.
@@ -271,7 +263,7 @@ pub fn value_column(settings: Settings, lines: Lines, tag: Held, i: usize, body:
 fn is_stepped(tag: Held, anchor: Held, body: Body) -> bool
     ensures { λ r. ⌜ r ≡ ((hasHeld tag || hasHeld anchor) && not (sequenceIn body)) ⌝ }
 {
-    if is_held_either(tag, anchor) {
+    if is_either(tag, anchor) {
         return !is_sequence(body);
     }
     false
@@ -290,9 +282,9 @@ pub fn item_column(settings: Settings, tag: Held, anchor: Held, i: usize, body: 
 
 // A mapping goes on its dash's line.
 fn is_unbroken(lines: Lines, remark: Remark) -> bool
-    ensures { λ r. ⌜ r ≡ not (on (remark .present) || marked (lines .marks) 2) ⌝ }
+    ensures { λ r. ⌜ r ≡ not (on (remark .at) || marked (lines .marks) 2) ⌝ }
 {
-    if remark.present != 0 {
+    if remark.at != 0 {
         return false;
     }
     !is_marked(lines.marks, 2)
@@ -302,7 +294,7 @@ fn is_unbroken(lines: Lines, remark: Remark) -> bool
 pub fn on_dash_line(lines: Lines, tag: Held, anchor: Held, remark: Remark, body: Body) -> bool
     ensures { λ r. ⌜ r ≡ onDashLineIn lines tag anchor remark body ⌝ }
 {
-    if is_held_either(tag, anchor) {
+    if is_either(tag, anchor) {
         return false;
     }
     if is_sequence(body) {
@@ -350,9 +342,9 @@ pub fn root_column(settings: Settings, lines: Lines, tag: Held, body: Body) -> u
 }
 
 fn is_tag_alone(settings: Settings, remark: Remark, anchor: Held) -> bool
-    ensures { λ r. ⌜ r ≡ (not (on (remark .present)) && not (hasHeld anchor) && isEmptyStyle (settings .«null_style»)) ⌝ }
+    ensures { λ r. ⌜ r ≡ (not (on (remark .at)) && not (hasHeld anchor) && isEmptyStyle (settings .«null_style»)) ⌝ }
 {
-    if remark.present != 0 {
+    if remark.at != 0 {
         return false;
     }
     if is_held(anchor) {

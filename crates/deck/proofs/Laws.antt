@@ -5,14 +5,15 @@ use mathlib.Core.List.{[]}
 use Prim.Native.Nat.{ℕ, zero, suc, _+_, _-_, _*_, _<_, _≤_}
 use native.Mathlib.Omega.{arith}
 use native.Mathlib.Nat.{min-eq-left, min-eq-right, le-of-lt}
-use lib.ListN.{length, take, drop, length-drop, drop-of-length-le}
+use lib.ListN.{length, take, drop, length-drop, drop-of-length-le, List·getD-eq-default}
 use lib.Seq.{take-all, take-nil}
 use borrow.Author.Tests.{le-leb, lt-leb}
 use Rattle.definition.specs.Base.{Bytes, within}
 use Rattle.definition.specs.declared.Cursor.{Cursor}
-use Rattle.definition.specs.Records.{kindAt, wordAt, sizeOf, past, recordAt, recordOf, groupAt}
+use Rattle.definition.specs.Records.{byteAt, kindAt, wordAt, textAt, fileAt, trailerAt, includeAt, sizeOf, past, recordAt, recordOf, groupAt}
 use Rattle.definition.specs.Deck.{isNode}
-use Rattle.deck.specs.Next.{nextOf}
+use Rattle.definition.specs.declared.File.the-variants.{Absent}
+use Rattle.deck.specs.Next.{nextOf, Within}
 use Rattle.deck.specs.Kids.{kidsOf, twice, node-kind, no-kids}
 
 abbrev at-place : ℕ → Cursor
@@ -66,3 +67,38 @@ long s start len h =
 
 pub gone : (s : Bytes) (start len : ℕ) → length s < start → [] ≡ take len (drop start s)
 gone s start len h = let l : length s ≤ start = omega arith in sym (ap (take len) (drop-of-length-le s l) ∙ take-nil len)
+
+-- ---- past the deck's end all is zero
+
+module _ (deck : Bytes) where
+  byte-past : (n : ℕ) → length deck ≤ n → byteAt deck n ≡ 0
+  unfolding byteAt
+  byte-past n h = List·getD-eq-default deck 0 h
+
+  word-past : (n : ℕ) → length deck ≤ n → wordAt deck n ≡ 0
+  unfolding wordAt
+  word-past n h = rw (byte-past n h, byte-past (n + 1) (omega arith))
+
+  text-past : (n : ℕ) → length deck ≤ n → textAt deck n ≡ record { from = 0; len = 0 }
+  unfolding textAt
+  text-past n h = rw (word-past n h, word-past (n + 2) (omega arith))
+
+  trailer-past : (n : ℕ) → length deck ≤ n → trailerAt deck n ≡ record { text = record { from = 0; len = 0 }; spaces = 0 }
+  unfolding trailerAt
+  trailer-past n h = rw (text-past n h, byte-past (n + 4) (omega arith))
+
+  include-past : (n : ℕ) → length deck ≤ n → includeAt deck n ≡ record { tag = record { from = 0; len = 0 }; target = record { from = 0; len = 0 }; file = Absent }
+  unfolding includeAt fileAt
+  include-past n h = rw (text-past n h, text-past (n + 4) (omega arith), byte-past (n + 8) (omega arith))
+
+  pub within-in : (at : ℕ) → at < length deck → Within deck at (at-place at)
+  within-in at h = record { inside = omega arith; text = refl; trailer = refl; include = refl }
+
+  pub within-past : (at : ℕ) → length deck ≤ at → Within deck at (at-place (length deck))
+  within-past at h =
+      record {
+        inside = omega arith;
+        text = text-past (length deck) (omega arith) ∙ sym (text-past at h);
+        trailer = trailer-past (length deck) (omega arith) ∙ sym (trailer-past at h);
+        include = include-past (length deck) (omega arith) ∙ sym (include-past at h);
+      }

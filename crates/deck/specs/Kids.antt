@@ -7,11 +7,16 @@ use native.Mathlib.Nat.{eq-or-lt-of-le, not-suc-le-zero, le-of-suc-le-suc}
 use native.Mathlib.Omega.{arith}
 use lib.Dec.{T, eqb, ltb, eqb→eq}
 use borrow.Author.Tests.{ne-eqb, ltb-true, ltb-false, le-leb, lt-leb}
-use Rattle.definition.specs.Base.{Bytes, within}
+use Rattle.definition.specs.Base.{Bytes, if_then_else_, within}
 use Rattle.definition.specs.Records.{recordOf}
 use Rattle.definition.specs.Deck.{isNode}
 use Rattle.definition.specs.declared.Record.{Record}
 use Rattle.definition.specs.declared.Record.the-variants as is
+
+-- what holds of both sides of a test holds of the test
+pub either : {A : Type 0} (P : A → Type 0) (b : Bool) {x y : A} → P x → P y → P (if b then x else y)
+either P true p q = p
+either P false p q = q
 
 unfoldable pub twice : ℕ → ℕ
 twice zero = zero

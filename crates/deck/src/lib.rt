@@ -17,7 +17,7 @@ ghost use Prim.Native.Nat.{_+_, _<_, _≤_, _^_};
 ghost use lib.ListN.{length, take, drop};
 ghost use Rattle.definition.specs.Records.{byteAt, wordAt, textAt, styleOf, formOf, sideOf, fileAt, includeAt, headingAt, trailerAt, linesAt, wordsAt, groupAt, recordOf, kindAt, recordAt, sizeOf};
 ghost use Rattle.definition.specs.Deck.{isNode, words};
-ghost use Rattle.deck.specs.Next.{nextOf, Referred};
+ghost use Rattle.deck.specs.Next.{nextOf, Referred, Within};
 ghost use Rattle.deck.specs.Kids.{kidsOf};
 
 // A record, and the cursor after it.
@@ -143,7 +143,7 @@ fn trailer_at(deck: &[u8], c: Cursor) -> Trailer
     Trailer { text, spaces }
 }
 
-fn lines_at(deck: &[u8], c: Cursor) -> Lines
+pub fn lines_at(deck: &[u8], c: Cursor) -> Lines
     requires { ⌜ c .at ≤ length (now deck) + 4 ⌝ }
     ensures { λ r. ⌜ r ≡ linesAt (now (deck .entry)) (c .at) ⌝ }
 {
@@ -156,7 +156,7 @@ fn lines_at(deck: &[u8], c: Cursor) -> Lines
     }
 }
 
-fn words_at(deck: &[u8], c: Cursor) -> Words
+pub fn words_at(deck: &[u8], c: Cursor) -> Words
     requires { ⌜ c .at ≤ length (now deck) + 4 ⌝ }
     ensures { λ r. ⌜ r ≡ wordsAt (now (deck .entry)) (c .at) ⌝ }
 {
@@ -167,7 +167,7 @@ fn words_at(deck: &[u8], c: Cursor) -> Words
     Words { text, style }
 }
 
-fn group_at(deck: &[u8], c: Cursor) -> Group
+pub fn group_at(deck: &[u8], c: Cursor) -> Group
     requires { ⌜ c .at ≤ length (now deck) + 4 ⌝ }
     ensures { λ r. ⌜ r ≡ groupAt (now (deck .entry)) (c .at) ⌝ }
 {
@@ -184,6 +184,35 @@ pub fn text_only(deck: &[u8], c: Cursor) -> Text
 {
     let r = text_at(deck, c);
     r.text
+}
+
+// The cursor at a place, or at the deck's end if the place is past it: the same is read there.
+fn within(deck: &[u8], at: usize) -> Cursor
+    ensures { λ r. ⌜ Within (now (deck .entry)) at r ⌝ }
+{
+    if at < deck.len() {
+        return Cursor { at };
+    }
+    Cursor { at: deck.len() }
+}
+
+// What stands at any place, where a body of that sort begins there.
+pub fn text_in(deck: &[u8], at: usize) -> Text
+    ensures { λ r. ⌜ r ≡ textAt (now (deck .entry)) at ⌝ }
+{
+    text_only(deck, within(deck, at))
+}
+
+pub fn trailer_in(deck: &[u8], at: usize) -> Trailer
+    ensures { λ r. ⌜ r ≡ trailerAt (now (deck .entry)) at ⌝ }
+{
+    trailer_at(deck, within(deck, at))
+}
+
+pub fn include_in(deck: &[u8], at: usize) -> Include
+    ensures { λ r. ⌜ r ≡ includeAt (now (deck .entry)) at ⌝ }
+{
+    include_at(deck, within(deck, at))
 }
 
 // The record of a kind whose body starts at a cursor.

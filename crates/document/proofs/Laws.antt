@@ -85,7 +85,7 @@ module _ (s : Settings) (deck pool : Bytes) where
       (x : Spot) (i : ℕ) (r : Cursor) {P₀ P₁ P₂ P₃ : Pen} → P₀ .w .flow ≡ 0 → P₀ .w .key ≡ 0 → i ≡ stepOf s
       → Draws (props (broughtIn deck pool x)) P₀ P₁
       → Emits s (contentOf s (on (P₁ .w .flow)) (on (P₁ .w .key)) i (x .place) (keptIn deck pool x) (broughtIn deck pool x) (kindIn deck pool x)) P₁ P₂ (x .place) (endIn deck pool x) r (length deck)
-      → Draws (closes (x .place) (remarkOf pool (x .lead .remark))) P₂ P₃
+      → Draws (closes (x .place) (remarkOf deck pool (x .lead .remark))) P₂ P₃
       → Emits s (lineRoot s deck pool x) P₀ P₃ (x .place) (endIn deck pool x) r (length deck)
   unfolding ink lineRoot inlined closes keptOf
   line-whole x i r {P₀} {P₁} {P₂} f k e d m z =
@@ -95,7 +95,7 @@ module _ (s : Settings) (deck pool : Bytes) where
       let a : Script = contentOf s false false (stepOf s) (x .place) (keptIn deck pool x) (broughtIn deck pool x) (kindIn deck pool x) in
       let u : P₂ ≡ ink s a P₁ = rw (f₁, k₁, e) at (m .drawn) in
       record {
-        drawn = z .drawn s ∙ ap (ink s (closes (x .place) (remarkOf pool (x .lead .remark)))) (u ∙ ap (ink s a) y);
+        drawn = z .drawn s ∙ ap (ink s (closes (x .place) (remarkOf deck pool (x .lead .remark)))) (u ∙ ap (ink s a) y);
         next = m .next;
         onward = m .onward;
         within = m .within;
@@ -149,7 +149,7 @@ module _ (s : Settings) (deck pool : Bytes) where
 
   pub root-directed :
       (passed : Bool) (c r : Cursor) (x : Spot) {P Q : Pen} → (includedIn (x .lead .origin) && not passed) ≡ true
-      → Draws (directed (x .place) (originOf pool (x .lead .origin)) (remarkOf pool (x .lead .remark))) P Q → Ends deck c r
+      → Draws (directed (x .place) (originOf deck pool (x .lead .origin)) (remarkOf deck pool (x .lead .remark))) P Q → Ends deck c r
       → Emits s (rootOf s deck pool passed x) P Q (c .at) (nextAt deck pool c) r (length deck)
   unfolding rootOf includeLine directed keptOf
   root-directed passed c r x t d e = record { drawn = rw t (d .drawn s); next = e .tree pool; onward = e .onward; within = e .within }

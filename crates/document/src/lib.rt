@@ -112,7 +112,7 @@ fn put_block(
 {
     let body = x.body;
     let i = choices::root_column(settings, x.lead.lines, x.lead.tag, body);
-    let w1 = parts::put_props_line(w, pool, out, x.lead);
+    let w1 = parts::put_props_line(w, deck, pool, out, x.lead);
     block::put_members(w1, deck, pool, out, settings, x, i, true)
 }
 
@@ -128,11 +128,11 @@ fn put_inlined(
     requires { ⌜ (Calm settings (now deck) (now pool) (pen w (now out)) (x .place) 0) × Good (now deck) x × (countIn (x .body) < 65536) ⌝ }
     ensures { λ r. ⌜ Emits settings (lineRoot settings (now (deck .entry)) (now (pool .entry)) x) (pen w (now (out .entry))) (pen (r .w) (now (out .exit))) (x .place) (endIn (now (deck .entry)) (now (pool .entry)) x) (r .next) (length (now (deck .entry))) ⌝ }
 {
-    let w1 = parts::put_props(w, pool, out, x.lead);
+    let w1 = parts::put_props(w, deck, pool, out, x.lead.tag, x.lead.anchor);
     let i = choices::step_of(settings);
     let e = flow::content(w1, deck, pool, out, settings, x, i);
     let next = e.next;
-    let v1 = parts::put_close(e.w, pool, out, x.place, x.lead);
+    let v1 = parts::put_close(e.w, deck, pool, out, x.place, x.lead.remark);
     Emitted { w: v1, next }
 }
 
@@ -160,7 +160,7 @@ fn put_body(
         x.lead.anchor,
         body,
     ) {
-        let v = parts::put_props_line(w, pool, out, x.lead);
+        let v = parts::put_props_line(w, deck, pool, out, x.lead);
         let next = x.next;
         return Emitted { w: v, next };
     }
@@ -192,7 +192,7 @@ fn put_root(
     ensures { λ r. ⌜ Emits settings (rootOf settings (now (deck .entry)) (now (pool .entry)) passed x) (pen w (now (out .entry))) (pen (r .w) (now (out .exit))) (c .at) (nextAt (now (deck .entry)) (now (pool .entry)) c) (r .next) (length (now (deck .entry))) ⌝ }
 {
     if is_directed(x.lead.origin, passed) {
-        let v = parts::put_include_line(w, pool, out, x.place, x.lead);
+        let v = parts::put_include_line(w, deck, pool, out, x.place, x.lead);
         let next = node::subtree_end(deck, c);
         return Emitted { w: v, next };
     }

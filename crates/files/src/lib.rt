@@ -38,8 +38,8 @@ fn look(deck: &[u8], c: Cursor) -> Found
     requires { ⌜ (c .at ≤ length (now deck)) × (length (now deck) ≤ 65536) ⌝ }
     ensures { λ r. ⌜ Looks (now (deck .entry)) c r ⌝ }
 {
-    let head = node::head_at(deck, c);
-    let next = head.next;
+    let x = spot::spot_at(deck, c);
+    let next = x.next;
     let file = modified::file_at(deck, c);
     match file {
         File::Absent => Found {

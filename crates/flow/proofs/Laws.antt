@@ -100,7 +100,7 @@ module _ (s : Settings) (deck pool : Bytes) where
 
   pub content-words :
       (x : Spot) (t : Words) (i : ℕ) {P Q : Pen} {m : Bool} → Good deck x → x .body ≡ body.Scalar t → m ≡ marked (x .lead .lines .marks) 1
-      → Q ≡ ink s (replays (x .place) (heldOf pool (x .lead .raw)) m (freshIn (F P) (K P) i (x .place) (remarkOf pool (x .lead .remark)) (words pool (t .text)) (t .style))) P
+      → Q ≡ ink s (replays (x .place) (heldOf deck pool (x .lead .raw)) m (freshIn (F P) (K P) i (x .place) (remarkOf deck pool (x .lead .remark)) (words pool (t .text)) (t .style))) P
       → Emits s (contentIn P i x) P Q (x .place) (endIn deck pool x) (x .next) (length deck)
   unfolding contentOf kindOf endOf keptOf broughtOf fresh freshIn commented
   content-words x t i g b e d = leaf-emits x _ g (rw b) (rw b (rw e at d))
@@ -296,7 +296,7 @@ module _ (s : Settings) (deck pool : Bytes) where
 
   pub item-whole :
       (c r : Cursor) (x : Spot) (i : ℕ) {P₀ P₁ P₂ : Pen} → c .at ≤ length deck → length deck ≤ 65536 → x ≡ spotAt deck c
-      → Draws (props (broughtOf pool (x .lead))) P₀ P₁
+      → Draws (props (broughtOf deck pool (x .lead))) P₀ P₁
       → Emits s (contentIn P₁ i x) P₁ P₂ (x .place) (endIn deck pool x) r (length deck)
       → Emits s (itemOf deck pool s (F P₀) (K P₀) i (nodeAt deck pool c)) P₀ P₂ (c .at) (nextAt deck pool c) r (length deck)
   unfolding ink itemOf content brought nodeIn
@@ -304,7 +304,7 @@ module _ (s : Settings) (deck pool : Bytes) where
       let g = spot-good deck c x k b e in
       let o = m .onward in
       let y = d .drawn s in
-      let z : ink s (contentIn P₁ i x) P₁ ≡ ink s (contentIn P₀ i x) P₁ = let f₁ : F P₁ ≡ F P₀ = flow-kept s (props (broughtOf pool (x .lead))) P₀ P₁ y in let k₁ : K P₁ ≡ K P₀ = key-kept s (props (broughtOf pool (x .lead))) P₀ P₁ y in rw (f₁, k₁) in
+      let z : ink s (contentIn P₁ i x) P₁ ≡ ink s (contentIn P₀ i x) P₁ = let f₁ : F P₁ ≡ F P₀ = flow-kept s (props (broughtOf deck pool (x .lead))) P₀ P₁ y in let k₁ : K P₁ ≡ K P₀ = key-kept s (props (broughtOf deck pool (x .lead))) P₀ P₁ y in rw (f₁, k₁) in
       record {
         drawn = rw (tree-value deck pool c k, ← e) (m .drawn ∙ z ∙ ap (ink s (contentIn P₀ i x)) y);
         next = m .next ∙ rw (tree-end deck pool c k, ← e);
@@ -313,7 +313,7 @@ module _ (s : Settings) (deck pool : Bytes) where
       }
 
   key-whole :
-      (r : Cursor) (x : Spot) (i n : ℕ) {P₀ P₁ P₂ P₃ P₄ : Pen} → Draws (props (broughtOf pool (x .lead))) P₀ P₁
+      (r : Cursor) (x : Spot) (i n : ℕ) {P₀ P₁ P₂ P₃ P₄ : Pen} → Draws (props (broughtOf deck pool (x .lead))) P₀ P₁
       → Emits s (contentIn (withKey 1 P₁) i x) (withKey 1 P₁) P₂ (x .place) (endIn deck pool x) r (length deck)
       → n ≡ P₀ .w .key → P₃ ≡ withKey n P₂ → Colon (x .body) P₃ P₄
       → Emits s (keyOf deck pool s (F P₀) (K P₀) i (nodeIn deck pool x)) P₀ P₄ (x .place) (endIn deck pool x) r (length deck)
@@ -322,9 +322,9 @@ module _ (s : Settings) (deck pool : Bytes) where
       let y = d .drawn s in
       let a : Script = contentOf s (F P₁) true i (x .place) (keptIn deck pool x) (broughtIn deck pool x) (kindIn deck pool x) in
       let u : P₂ ≡ ink s a (withKey 1 P₁) = unfold withKey in m .drawn in
-      let v : P₃ ≡ ink s a P₁ = q ∙ ap (λ (m : ℕ). withKey m P₂) (h ∙ sym (key-of s (props (broughtOf pool (x .lead))) P₀ P₁ y)) ∙ ap (withKey (P₁ .w .key)) u ∙ ink-in-key s a 1 P₁ in
+      let v : P₃ ≡ ink s a P₁ = q ∙ ap (λ (m : ℕ). withKey m P₂) (h ∙ sym (key-of s (props (broughtOf deck pool (x .lead))) P₀ P₁ y)) ∙ ap (withKey (P₁ .w .key)) u ∙ ink-in-key s a 1 P₁ in
       let a₀ : Script = contentOf s (F P₀) true i (x .place) (keptIn deck pool x) (broughtIn deck pool x) (kindIn deck pool x) in
-      let z : ink s a P₁ ≡ ink s a₀ P₁ = let f₁ : F P₁ ≡ F P₀ = flow-kept s (props (broughtOf pool (x .lead))) P₀ P₁ y in rw f₁ in
+      let z : ink s a P₁ ≡ ink s a₀ P₁ = let f₁ : F P₁ ≡ F P₀ = flow-kept s (props (broughtOf deck pool (x .lead))) P₀ P₁ y in rw f₁ in
       record {
         drawn = l .drawn deck pool (x .next) .drawn s ∙ ap (ink s (colon (kindIn deck pool x))) (v ∙ z ∙ ap (ink s a₀) y);
         next = m .next;
@@ -335,7 +335,7 @@ module _ (s : Settings) (deck pool : Bytes) where
   -- the same of writers: the key mark set, and set back
   pub key-whole-is :
       (r : Cursor) (x : Spot) (i : ℕ) (w w₁ w₂ u v : Writer) (out out₁ out₂ : Bytes) {P : Pen}
-      → Draws (props (broughtOf pool (x .lead))) (pen w out) (pen w₁ out₁) → w₂ ≡ withKey 1 (pen w₁ []) .w
+      → Draws (props (broughtOf deck pool (x .lead))) (pen w out) (pen w₁ out₁) → w₂ ≡ withKey 1 (pen w₁ []) .w
       → Emits s (contentIn (pen w₂ out₁) i x) (pen w₂ out₁) (pen u out₂) (x .place) (endIn deck pool x) r (length deck)
       → v ≡ withKey (w .key) (pen u []) .w → Colon (x .body) (pen v out₂) P
       → Emits s (keyOf deck pool s (on (w .flow)) (on (w .key)) i (nodeIn deck pool x)) (pen w out) P (x .place) (endIn deck pool x) r (length deck)
@@ -363,7 +363,7 @@ module _ (s : Settings) (deck pool : Bytes) where
       (pairs last : Bool) (c to r : Cursor) (x : Spot) (i : ℕ) {P₀ P₁ P₂ P₃ : Pen} → LastOf deck pairs c to → x ≡ spotAt deck to
       → Draws (linedBefore deck pool i pairs c) P₀ P₁
       → Emits s (entryOf deck pool s (F P₁) (K P₁) i pairs c) P₁ P₂ (c .at) (entryEnd deck pool pairs c) r (length deck)
-      → Draws (linedAfter last (x .place) (remarkOf pool (x .lead .remark))) P₂ P₃
+      → Draws (linedAfter last (x .place) (remarkOf deck pool (x .lead .remark))) P₂ P₃
       → Emits s (linedOf deck pool s (F P₀) (K P₀) i pairs last c) P₀ P₃ (c .at) (entryEnd deck pool pairs c) r (length deck)
   unfolding ink linedOf place kept nodeIn keptOf
   lined-entry-whole pairs last c to r x i {P₀} {P₁} h e d m z =
@@ -371,7 +371,7 @@ module _ (s : Settings) (deck pool : Bytes) where
       let a : Script = entryOf deck pool s (F P₀) (K P₀) i pairs c in
       let u : ink s (entryOf deck pool s (F P₁) (K P₁) i pairs c) P₁ ≡ ink s a P₁ = let f₁ : F P₁ ≡ F P₀ = flow-kept s (linedBefore deck pool i pairs c) P₀ P₁ y in let k₁ : K P₁ ≡ K P₀ = key-kept s (linedBefore deck pool i pairs c) P₀ P₁ y in rw (f₁, k₁) in
       record {
-        drawn = rw (← h .is pool, tree-value deck pool to (h .within), ← e) (z .drawn s ∙ ap (ink s (linedAfter last (x .place) (remarkOf pool (x .lead .remark)))) (m .drawn ∙ u ∙ ap (ink s a) y));
+        drawn = rw (← h .is pool, tree-value deck pool to (h .within), ← e) (z .drawn s ∙ ap (ink s (linedAfter last (x .place) (remarkOf deck pool (x .lead .remark)))) (m .drawn ∙ u ∙ ap (ink s a) y));
         next = m .next;
         onward = m .onward;
         within = m .within;

@@ -68,6 +68,7 @@ pub fn content(
             let modified = parts::is_marked(x.lead.lines.marks, 1);
             let v = atoms::put_words(
                 w,
+                deck,
                 pool,
                 out,
                 settings,
@@ -262,7 +263,7 @@ fn lined_entry(
     let w1 = joints::put_lined_before(w, deck, pool, out, pairs, c, end, i);
     let e = flow_entry(w1, deck, pool, out, settings, pairs, c, i);
     let next = e.next;
-    let v1 = joints::put_lined_after(e.w, pool, out, last, x.place, x.lead.remark);
+    let v1 = joints::put_lined_after(e.w, deck, pool, out, last, x.place, x.lead.remark);
     Emitted { w: v1, next }
 }
 
@@ -304,7 +305,7 @@ pub fn key(
     ensures { λ r. ⌜ Emits settings (keyOf (now (deck .entry)) (now (pool .entry)) settings (on (w .flow)) (on (w .key)) i (nodeIn (now (deck .entry)) (now (pool .entry)) x)) (pen w (now (out .entry))) (pen (r .w) (now (out .exit))) (x .place) (endIn (now (deck .entry)) (now (pool .entry)) x) (r .next) (length (now (deck .entry))) ⌝ }
 {
     let mark = w.key;
-    let w1 = parts::put_props(w, pool, out, x.lead);
+    let w1 = parts::put_props(w, deck, pool, out, x.lead.tag, x.lead.anchor);
     let w2 = joints::with_key(w1, 1);
     let e = content(w2, deck, pool, out, settings, x, i);
     let next = e.next;
@@ -328,6 +329,6 @@ pub fn item(
     ensures { λ r. ⌜ Emits settings (itemOf (now (deck .entry)) (now (pool .entry)) settings (on (w .flow)) (on (w .key)) i (nodeAt (now (deck .entry)) (now (pool .entry)) c)) (pen w (now (out .entry))) (pen (r .w) (now (out .exit))) (c .at) (nextAt (now (deck .entry)) (now (pool .entry)) c) (r .next) (length (now (deck .entry))) ⌝ }
 {
     let x = spot::spot_at(deck, c);
-    let w1 = parts::put_props(w, pool, out, x.lead);
+    let w1 = parts::put_props(w, deck, pool, out, x.lead.tag, x.lead.anchor);
     content(w1, deck, pool, out, settings, x, i)
 }

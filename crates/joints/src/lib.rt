@@ -118,6 +118,7 @@ fn put_comma(w: Writer, out: &mut [u8], last: bool) -> Writer
 // What stands after an entry on a line of its own.
 pub fn put_lined_after(
     w: Writer,
+    deck: &[u8],
     pool: &[u8],
     out: &mut [u8],
     last: bool,
@@ -125,10 +126,10 @@ pub fn put_lined_after(
     remark: Remark,
 ) -> Writer
     requires { ⌜ (length (now out) < 2 ^ 62) × (place < 2 ^ 62) ⌝ }
-    ensures { λ r. ⌜ Draws (linedAfter last place (remarkOf (now (pool .entry)) remark)) (pen w (now (out .entry))) (pen r (now (out .exit))) ⌝ }
+    ensures { λ r. ⌜ Draws (linedAfter last place (remarkOf (now (deck .entry)) (now (pool .entry)) remark)) (pen w (now (out .entry))) (pen r (now (out .exit))) ⌝ }
 {
     let w1 = put_comma(w, out, last);
-    let w2 = parts::put_remark(w1, pool, out, place, remark);
+    let w2 = parts::put_remark(w1, deck, pool, out, place, remark);
     w2.byte(out, b'\n')
 }
 

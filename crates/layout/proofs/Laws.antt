@@ -41,7 +41,7 @@ and-left false b e = e
 
 module _ (s : Settings) (deck pool : Bytes) where
   pub included-whole :
-      (x : Spot) (c r : Cursor) {P Q R : Pen} → Q ≡ put1 P SP → Draws (directed (x .place) (originOf pool (x .lead .origin)) (remarkOf pool (x .lead .remark))) Q R → Ends deck c r
+      (x : Spot) (c r : Cursor) {P Q R : Pen} → Q ≡ put1 P SP → Draws (directed (x .place) (originOf deck pool (x .lead .origin)) (remarkOf deck pool (x .lead .remark))) Q R → Ends deck c r
       → Emits s (includeAfter (x .place) (keptIn deck pool x)) P R (c .at) (nextAt deck pool c) r (length deck)
   unfolding includeAfter includeLine directed sign keptOf
   included-whole x c r e d n = record { drawn = both _ _ (of-byte mark SP e) d .drawn s; next = n .tree pool; onward = n .onward; within = n .within }
@@ -57,19 +57,19 @@ module _ (s : Settings) (deck pool : Bytes) where
   quiet a x i P Q R f k d e = emits-same _ _ (calm-content s deck pool i (Q .w .flow) (Q .w .key) x (flow-of s a P Q (d .drawn s) ∙ f) (key-of s a P Q (d .drawn s) ∙ k)) e
 
   pub inlined-whole :
-      (x : Spot) (i : ℕ) (r : Cursor) (P Q R S : Pen) → P .w .flow ≡ 0 → P .w .key ≡ 0 → Draws (props (broughtOf pool (x .lead))) P Q
-      → Emits s (told Q i x) Q R (x .place) (endIn deck pool x) r (length deck) → Draws (closes (x .place) (remarkOf pool (x .lead .remark))) R S
+      (x : Spot) (i : ℕ) (r : Cursor) (P Q R S : Pen) → P .w .flow ≡ 0 → P .w .key ≡ 0 → Draws (props (broughtOf deck pool (x .lead))) P Q
+      → Emits s (told Q i x) Q R (x .place) (endIn deck pool x) r (length deck) → Draws (closes (x .place) (remarkOf deck pool (x .lead .remark))) R S
       → Emits s (inlined (x .place) (keptIn deck pool x) (broughtIn deck pool x) (content s false false i (nodeIn deck pool x))) P S (x .place) (endIn deck pool x) r (length deck)
   unfolding inlined closes keptOf
-  inlined-whole x i r P Q R S f k d e z = drawn-first _ _ d (drawn-last _ _ (quiet (props (broughtOf pool (x .lead))) x i P Q R f k d e) z)
+  inlined-whole x i r P Q R S f k d e z = drawn-first _ _ d (drawn-last _ _ (quiet (props (broughtOf deck pool (x .lead))) x i P Q R f k d e) z)
 
   pub below-whole :
-      (x : Spot) (i : ℕ) (r : Cursor) (P Q R S : Pen) → P .w .flow ≡ 0 → P .w .key ≡ 0 → Draws (belowOpen (x .place) (keptOf deck pool (x .lead)) (broughtOf pool (x .lead)) i) P Q
+      (x : Spot) (i : ℕ) (r : Cursor) (P Q R S : Pen) → P .w .flow ≡ 0 → P .w .key ≡ 0 → Draws (belowOpen (x .place) (keptOf deck pool (x .lead)) (broughtOf deck pool (x .lead)) i) P Q
       → Emits s (told Q i x) Q R (x .place) (endIn deck pool x) r (length deck) → S ≡ lineEnded R
       → Emits s (belowIntroducer (x .place) (keptIn deck pool x) (broughtIn deck pool x) i (content s false false i (nodeIn deck pool x))) P S (x .place) (endIn deck pool x) r (length deck)
   unfolding ink belowIntroducer belowOpen breaks
   below-whole x i r P Q R S f k d e z =
-      let m = drawn-first _ _ d (drawn-last _ endLine (quiet (belowOpen (x .place) (keptOf deck pool (x .lead)) (broughtOf pool (x .lead)) i) x i P Q R f k d e) (of-end z)) in
+      let m = drawn-first _ _ d (drawn-last _ endLine (quiet (belowOpen (x .place) (keptOf deck pool (x .lead)) (broughtOf deck pool (x .lead)) i) x i P Q R f k d e) (of-end z)) in
       record { drawn = m .drawn; next = m .next; onward = m .onward; within = m .within }
 
   -- ---- a value
@@ -107,7 +107,7 @@ module _ (s : Settings) (deck pool : Bytes) where
 
   pub value-bare :
       (x : Spot) (i : ℕ) (b : Bool) {P Q R : Pen} → Good deck x → b ≡ bareIn s pool (x .lead .lines) (x .lead .remark) (x .body) → b ≡ true
-      → Draws (propsCompact (broughtOf pool (x .lead))) P Q → R ≡ put1 Q LF → Emits s (valueIn x i) P R (x .place) (endIn deck pool x) (x .next) (length deck)
+      → Draws (propsCompact (broughtOf deck pool (x .lead))) P Q → R ≡ put1 Q LF → Emits s (valueIn x i) P R (x .place) (endIn deck pool x) (x .next) (length deck)
   unfolding valueOf newline
   value-bare x i b g e f d p =
       let h : bareIn s pool (x .lead .lines) (x .lead .remark) (x .body) ≡ true = sym e ∙ f in
@@ -118,15 +118,15 @@ module _ (s : Settings) (deck pool : Bytes) where
 
   pub key-line-whole :
       (x : Spot) (i : ℕ) (r : Cursor) (w w₁ w₂ w₃ u v : Writer) (out out₁ out₂ out₃ : Bytes) {P : Pen} → w .flow ≡ 0 → w .key ≡ 0
-      → pen w₁ out₁ ≡ put1 (pen w out) SP → Draws (props (broughtOf pool (x .lead))) (pen w₁ out₁) (pen w₂ out₂) → w₃ ≡ withKey 1 (pen w₂ []) .w
+      → pen w₁ out₁ ≡ put1 (pen w out) SP → Draws (props (broughtOf deck pool (x .lead))) (pen w₁ out₁) (pen w₂ out₂) → w₃ ≡ withKey 1 (pen w₂ []) .w
       → Emits s (told (pen w₃ out₂) i x) (pen w₃ out₂) (pen u out₃) (x .place) (endIn deck pool x) r (length deck)
       → v ≡ withKey 0 (pen u []) .w → P ≡ lineEnded (pen v out₃)
       → Emits s (keyLine s i (broughtIn deck pool x) (nodeIn deck pool x)) (pen w out) P (x .place) (endIn deck pool x) r (length deck)
   unfolding ink keyLine content nodeIn withKey on sign
   key-line-whole x i r w w₁ w₂ w₃ u v out out₁ out₂ out₃ {P} f k a d b e q z =
-      let c : Draws (sign SP >> props (broughtOf pool (x .lead))) (pen w out) (pen w₂ out₂) = both (sign SP) _ (of-byte mark SP a) d in
-      let f₂ : w₂ .flow ≡ 0 = flow-of s (sign SP >> props (broughtOf pool (x .lead))) (pen w out) (pen w₂ out₂) (c .drawn s) ∙ f in
-      let k₂ : w₂ .key ≡ 0 = key-of s (sign SP >> props (broughtOf pool (x .lead))) (pen w out) (pen w₂ out₂) (c .drawn s) ∙ k in
+      let c : Draws (sign SP >> props (broughtOf deck pool (x .lead))) (pen w out) (pen w₂ out₂) = both (sign SP) _ (of-byte mark SP a) d in
+      let f₂ : w₂ .flow ≡ 0 = flow-of s (sign SP >> props (broughtOf deck pool (x .lead))) (pen w out) (pen w₂ out₂) (c .drawn s) ∙ f in
+      let k₂ : w₂ .key ≡ 0 = key-of s (sign SP >> props (broughtOf deck pool (x .lead))) (pen w out) (pen w₂ out₂) (c .drawn s) ∙ k in
       let m : Script = contentOf s false true i (x .place) (keptIn deck pool x) (broughtIn deck pool x) (kindIn deck pool x) in
       let e₁ : pen u out₃ ≡ ink s (contentOf s (on (w₂ .flow)) true i (x .place) (keptIn deck pool x) (broughtIn deck pool x) (kindIn deck pool x)) (withKey 1 (pen w₂ out₂)) = rw b at (e .drawn) in
       let e₂ : pen u out₃ ≡ ink s m (withKey 1 (pen w₂ out₂)) = e₁ ∙ ap (λ (y : Bool). ink s (contentOf s y true i (x .place) (keptIn deck pool x) (broughtIn deck pool x) (kindIn deck pool x)) (withKey 1 (pen w₂ out₂))) (ap on f₂) in

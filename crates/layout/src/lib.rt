@@ -36,7 +36,7 @@ pub fn put_include(
     ensures { λ r. ⌜ Emits settings (includeAfter (x .place) (keptIn (now (deck .entry)) (now (pool .entry)) x)) (pen w (now (out .entry))) (pen (r .w) (now (out .exit))) (c .at) (nextAt (now (deck .entry)) (now (pool .entry)) c) (r .next) (length (now (deck .entry))) ⌝ }
 {
     let w1 = w.byte(out, b' ');
-    let w2 = parts::put_include_line(w1, pool, out, x.place, x.lead);
+    let w2 = parts::put_include_line(w1, deck, pool, out, x.place, x.lead);
     let next = node::subtree_end(deck, c);
     Emitted { w: w2, next }
 }
@@ -54,10 +54,10 @@ pub fn put_inlined(
     requires { ⌜ (Ready settings (now deck) (now pool) (pen w (now out)) (x .place) i) × Good (now deck) x × (countIn (x .body) < 65536) × (w .flow ≡ 0) × (w .key ≡ 0) ⌝ }
     ensures { λ r. ⌜ Emits settings (inlined (x .place) (keptIn (now (deck .entry)) (now (pool .entry)) x) (broughtIn (now (deck .entry)) (now (pool .entry)) x) (content settings false false i (nodeIn (now (deck .entry)) (now (pool .entry)) x))) (pen w (now (out .entry))) (pen (r .w) (now (out .exit))) (x .place) (endIn (now (deck .entry)) (now (pool .entry)) x) (r .next) (length (now (deck .entry))) ⌝ }
 {
-    let w1 = parts::put_props(w, pool, out, x.lead);
+    let w1 = parts::put_props(w, deck, pool, out, x.lead.tag, x.lead.anchor);
     let e = flow::content(w1, deck, pool, out, settings, x, i);
     let next = e.next;
-    let v = parts::put_close(e.w, pool, out, x.place, x.lead);
+    let v = parts::put_close(e.w, deck, pool, out, x.place, x.lead.remark);
     Emitted { w: v, next }
 }
 
@@ -96,7 +96,7 @@ pub fn put_value(
 {
     let body = x.body;
     if choices::bare(settings, pool, x.lead.lines, x.lead.remark, body) {
-        let w1 = parts::put_props_compact(w, pool, out, x.lead);
+        let w1 = parts::put_props_compact(w, deck, pool, out, x.lead);
         let w2 = w1.byte(out, b'\n');
         let next = x.next;
         return Emitted { w: w2, next };
@@ -122,7 +122,7 @@ pub fn put_key_line(
     ensures { λ r. ⌜ Emits settings (keyLine settings i (broughtIn (now (deck .entry)) (now (pool .entry)) x) (nodeIn (now (deck .entry)) (now (pool .entry)) x)) (pen w (now (out .entry))) (pen (r .w) (now (out .exit))) (x .place) (endIn (now (deck .entry)) (now (pool .entry)) x) (r .next) (length (now (deck .entry))) ⌝ }
 {
     let w1 = w.byte(out, b' ');
-    let w2 = parts::put_props(w1, pool, out, x.lead);
+    let w2 = parts::put_props(w1, deck, pool, out, x.lead.tag, x.lead.anchor);
     let w3 = joints::with_key(w2, 1);
     let e = flow::content(w3, deck, pool, out, settings, x, i);
     let next = e.next;

@@ -129,12 +129,12 @@ module _ (deck : Bytes) (c : Cursor) (key₀ : Bool) (s : Start) (b : Starts dec
 -- ---- the file of a node
 
 module _ (deck : Bytes) (c : Cursor) (k : c .at ≤ length deck) (o : Origin) (at : o ≡ spotAt deck c .lead .origin) where
-  pub file-absent : {f : File} → f ≡ fileNamed o → f ≡ Absent → Files deck c Absent
+  pub file-absent : {f : File} → f ≡ fileNamed deck o → f ≡ Absent → Files deck c Absent
   file-absent e z = record { told = λ pool. sym (rw (← at, ← e, z) at (file-is deck pool c k) ∙ same (localModified (treeAt deck pool c .value))) }
     where
       same : (b : Bool) → (if b then Absent else Absent) ≡ Absent
       same true = refl
       same false = refl
 
-  pub file-changed : {f r : File} → f ≡ fileNamed o → IfChanged deck c f r → Files deck c r
+  pub file-changed : {f r : File} → f ≡ fileNamed deck o → IfChanged deck c f r → Files deck c r
   file-changed e i = record { told = λ pool. i .told pool ∙ sym (rw (← at, ← e) at (file-is deck pool c k)) }

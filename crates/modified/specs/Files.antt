@@ -8,6 +8,7 @@ use mathlib.Core.Option.{Option, none, some}
 use lib.ListN.{length}
 use borrow.Author.Tests.{le-leb, lt-leb}
 use Rattle.definition.specs.Base.{Bytes, if_then_else_}
+use Rattle.definition.specs.Records.{includeAt}
 use Rattle.definition.specs.Tree.{Source, Node, kept}
 use Rattle.definition.specs.Deck.{fileOf, sourceOf}
 use Rattle.definition.specs.Document.{emitFile}
@@ -75,28 +76,28 @@ unfolding changedFile
 own-changed n bs = own-source n (kept n .source) bs
 
 -- the file of an include that may be absent
-unfoldable pub fileNamed : Origin → File
-fileNamed o = if includedIn o then o .include .file else Absent
+unfoldable pub fileNamed : Bytes → Origin → File
+fileNamed deck o = if includedIn o then includeAt deck (o .at) .file else Absent
 
 id-is : (f : File) → idIn (fileOf f) ≡ f
 unfolding idIn fileOf
 id-is Absent = refl
 id-is (Id i) = refl
 
-named-is : (pool : Bytes) (o : Origin) → fileIn (originOf pool o) ≡ fileNamed o
+named-is : (deck pool : Bytes) (o : Origin) → fileIn (originOf deck pool o) ≡ fileNamed deck o
 unfolding fileNamed includedIn on originOf sourceOf fileIn
-named-is pool o = go (eqb (o .present) 0)
+named-is deck pool o = go (eqb (o .at) 0)
   where
-    go : (b : Bool) → fileIn (if b then none else some (sourceOf pool (o .include))) ≡ (if not b then o .include .file else Absent)
+    go : (b : Bool) → fileIn (if b then none else some (sourceOf pool (includeAt deck (o .at)))) ≡ (if not b then includeAt deck (o .at) .file else Absent)
     go true = refl
-    go false = id-is (o .include .file)
+    go false = id-is (includeAt deck (o .at) .file)
 
 -- the file of the node at a cursor, by its head
 pub file-is :
     (deck pool : Bytes) (c : Cursor) → c .at ≤ length deck →
-    fileAt deck pool c ≡ (if localModified (treeAt deck pool c .value) then fileNamed (spotAt deck c .lead .origin) else Absent)
+    fileAt deck pool c ≡ (if localModified (treeAt deck pool c .value) then fileNamed deck (spotAt deck c .lead .origin) else Absent)
 unfolding fileAt changedFile nodeIn kept keptOf
-file-is deck pool c k = rw (tree-value deck pool c k, named-is pool (spotAt deck c .lead .origin))
+file-is deck pool c k = rw (tree-value deck pool c k, named-is deck pool (spotAt deck c .lead .origin))
 
 -- ---- the files below
 

@@ -162,11 +162,11 @@ pub fn local_modified(deck: &[u8], c: Cursor) -> bool
 }
 
 // The file of an include that may be absent.
-fn file_named(origin: Origin) -> File
-    ensures { λ r. ⌜ r ≡ fileNamed origin ⌝ }
+fn file_named(deck: &[u8], origin: Origin) -> File
+    ensures { λ r. ⌜ r ≡ fileNamed (now (deck .entry)) origin ⌝ }
 {
     if is_included(origin) {
-        let include = origin.include;
+        let include = deck::include_in(deck, origin.at);
         return include.file;
     }
     File::Absent
@@ -188,7 +188,7 @@ fn file_of(deck: &[u8], c: Cursor, origin: Origin) -> File
     requires { ⌜ (c .at ≤ length (now deck)) × (length (now deck) ≤ 65536) × (origin ≡ spotAt (now deck) c .lead .origin) ⌝ }
     ensures { λ r. ⌜ Files (now (deck .entry)) c r ⌝ }
 {
-    let file = file_named(origin);
+    let file = file_named(deck, origin);
     match file {
         File::Absent => File::Absent,
         File::Id(_) => if_changed(deck, c, file),

@@ -7,20 +7,20 @@ use lib.ListN.{length}
 use lib.Dec.{eqb}
 use borrow.Author.Tests.{eq-eqb, ne-eqb}
 use Rattle.definition.specs.Base.{Bytes, if_then_else_}
-use Rattle.definition.specs.Records.{kindAt, recordOf, recordAt}
+use Rattle.definition.specs.Records.{kindAt, recordOf, recordAt, linesAt}
 use Rattle.definition.specs.Deck.{isNode}
 use Rattle.definition.specs.declared.Cursor.{Cursor}
 use Rattle.definition.specs.declared.Record.{Record}
 use Rattle.definition.specs.declared.Record.the-variants as is
 use Rattle.deck.specs.Next.{nextOf}
-use Rattle.deck.specs.Kids.{kidsOf}
+use Rattle.deck.specs.Kids.{either, kidsOf}
 use Rattle.node.specs.declared.Run.{Run}
 use Rattle.node.specs.declared.Lead.{Lead}
-use Rattle.node.specs.declared.Head.{Head}
-use Rattle.node.specs.Head.{onto, noLead, addTo, Small, headed, headFrom, headAt, ownFrom}
+use Rattle.node.specs.declared.Front.{Front}
+use Rattle.node.specs.Head.{onto, noLead, addTo, withTag, withAnchor, withOrigin, withRemark, withRaw, withLines, moreHeads, moreFoots, moreDirectives, Small, Head, frontOf, headed, headFrom, headAt, ownFrom}
 use Rattle.node.specs.Comments.{isComment, commentFrom}
 use Rattle.node.specs.Total.{treeAt}
-use Rattle.node.specs.Fuel.{nexts, head-at-onward, next-within, own-is, tree-next}
+use Rattle.node.specs.Fuel.{nexts, head-at-onward, place-within, own-is, tree-next}
 
 -- ---- runs
 
@@ -60,32 +60,82 @@ pub small-step :
     0 < left → left ≤ len → Small (len - left) l → m ≡ addTo r c l → Small (len - (left - 1)) m
 small-step len left l m r c h k s e = rw e (small-fits {n = len - left + 1} _ (omega arith) (small-more r c s))
 
+-- ---- what a record adds, by its kind
+
+module _ (deck : Bytes) (c : Cursor) (l : Lead) (k : ℕ) (f : k ≡ kindAt deck c) where
+  pub add-tag : k ≡ 0x01 → withTag c l ≡ addTo (recordAt deck c) c l
+  unfolding recordAt recordOf addTo
+  add-tag e = rw (← f, e)
+
+  pub add-anchor : k ≡ 0x02 → withAnchor c l ≡ addTo (recordAt deck c) c l
+  unfolding recordAt recordOf addTo
+  add-anchor e = rw (← f, e)
+
+  pub add-origin : k ≡ 0x03 → withOrigin c l ≡ addTo (recordAt deck c) c l
+  unfolding recordAt recordOf addTo
+  add-origin e = rw (← f, e)
+
+  pub add-heads : k ≡ 0x04 → moreHeads c l ≡ addTo (recordAt deck c) c l
+  unfolding recordAt recordOf addTo
+  add-heads e = rw (← f, e)
+
+  pub add-remark : k ≡ 0x05 → withRemark c l ≡ addTo (recordAt deck c) c l
+  unfolding recordAt recordOf addTo
+  add-remark e = rw (← f, e)
+
+  pub add-foots : k ≡ 0x06 → moreFoots c l ≡ addTo (recordAt deck c) c l
+  unfolding recordAt recordOf addTo
+  add-foots e = rw (← f, e)
+
+  pub add-raw : k ≡ 0x07 → withRaw c l ≡ addTo (recordAt deck c) c l
+  unfolding recordAt recordOf addTo
+  add-raw e = rw (← f, e)
+
+  pub add-directives : k ≡ 0x08 → moreDirectives c l ≡ addTo (recordAt deck c) c l
+  unfolding recordAt recordOf addTo
+  add-directives e = rw (← f, e)
+
+  pub add-lines : k ≡ 0x09 → withLines (linesAt deck (c .at + 1)) l ≡ addTo (recordAt deck c) c l
+  unfolding recordAt recordOf addTo
+  add-lines e = rw (← f, e)
+
+  -- a record of any other kind adds nothing
+  pub add-none : (k ≡ 0x01 → ⊥) → (k ≡ 0x02 → ⊥) → (k ≡ 0x03 → ⊥) → (k ≡ 0x04 → ⊥) → (k ≡ 0x05 → ⊥) → (k ≡ 0x06 → ⊥) → (k ≡ 0x07 → ⊥) → (k ≡ 0x08 → ⊥) → (k ≡ 0x09 → ⊥) → l ≡ addTo (recordAt deck c) c l
+  unfolding recordAt recordOf addTo
+  add-none a b d e g h i j m =
+      rw (← f, ne-eqb k 0x01 a, ne-eqb k 0x02 b, ne-eqb k 0x03 d, ne-eqb k 0x04 e, ne-eqb k 0x05 g, ne-eqb k 0x06 h, ne-eqb k 0x07 i, ne-eqb k 0x08 j, ne-eqb k 0x09 m)
+      (sym (own 0x21 _ _ refl (own 0x22 _ _ refl (own 0x23 _ _ refl (own 0x24 _ _ refl refl)))))
+    where
+      own : (n : ℕ) (x y : Record) → addTo x c l ≡ l → addTo y c l ≡ l → addTo (if eqb k n then x else y) c l ≡ l
+      own n x y = either (λ (r : Record). addTo r c l ≡ l) (eqb k n) {x = x} {y = y}
+
 -- ---- a head
 
 module _ (deck : Bytes) where
-  pub next-in : (c n : Cursor) → n ≡ nextOf deck c → n .at ≤ length deck
-  next-in c n e = rw e (next-within deck c)
+  -- the front that is had where the walk over leading records stands
+  abbrev fronted : Lead → Cursor → Front
+  fronted l c = record { lead = l; own = c }
 
-  pub head-stop : (n : ℕ) (l : Lead) (c : Cursor) (b : Bool) → b ≡ isNode (recordAt deck c) → b ≡ true → headed deck l c ≡ headFrom deck n l c
-  unfolding headFrom
-  head-stop zero l c b e t = refl
-  head-stop (suc n) l c b e t = rw (← e, t)
+  pub front-stop : (n : ℕ) (l : Lead) (c : Cursor) (b : Bool) → b ≡ isNode (recordAt deck c) → b ≡ true → fronted l c ≡ frontOf (headFrom deck n l c)
+  unfolding headFrom headed frontOf
+  front-stop zero l c b e t = refl
+  front-stop (suc n) l c b e t = rw (← e, t)
 
   pub head-more :
-      (n : ℕ) (l m : Lead) (c next : Cursor) (b : Bool) (r : Record) →
-      0 < n → b ≡ isNode (recordAt deck c) → b ≡ false → r ≡ recordAt deck c → next ≡ nextOf deck c → m ≡ addTo r c l →
+      (n : ℕ) (l m : Lead) (c next : Cursor) (b : Bool) →
+      0 < n → b ≡ isNode (recordAt deck c) → b ≡ false → next ≡ nextOf deck c → m ≡ addTo (recordAt deck c) c l →
       headFrom deck (n - 1) m next ≡ headFrom deck n l c
   unfolding headFrom
-  head-more zero l m c next b r h e f g x a = absurd (omega arith)
-  head-more (suc n) l m c next b r h e f g x a = let s : suc n - 1 ≡ n = omega arith in rw (s, ← e, f, a, g, x)
+  head-more zero l m c next b h e f x a = absurd (omega arith)
+  head-more (suc n) l m c next b h e f x a = let s : suc n - 1 ≡ n = omega arith in rw (s, ← e, f, a, x)
 
-  pub head-done : (n : ℕ) (l : Lead) (c : Cursor) → n ≡ 0 → headed deck l c ≡ headFrom deck n l c
-  unfolding headFrom
-  head-done n l c e = rw e
+  pub front-done : (n : ℕ) (l : Lead) (c : Cursor) → n ≡ 0 → fronted l c ≡ frontOf (headFrom deck n l c)
+  unfolding headFrom headed frontOf
+  front-done n l c e = rw e
 
-  pub head-is : (l : Lead) (c : Cursor) → l ≡ noLead → headFrom deck (length deck) l c ≡ headAt deck c
+  pub front-is : (h : Head) (l : Lead) (c : Cursor) → h ≡ headFrom deck (length deck) l c → l ≡ noLead → frontOf h ≡ frontOf (headAt deck c)
   unfolding headAt
-  head-is l c e = rw e
+  front-is h l c q e = rw (q, e)
 
   -- ---- its own record's place
 
@@ -108,10 +158,6 @@ module _ (deck : Bytes) where
 
 -- ---- its comments
 
-comment-pass : (b : Bool) (x y : Record) → isComment x ≡ false → isComment y ≡ false → isComment (if b then x else y) ≡ false
-comment-pass true x y p q = p
-comment-pass false x y p q = q
-
 module _ (deck : Bytes) (c : Cursor) (k : ℕ) (f : k ≡ kindAt deck c) where
   pub comment-head : k ≡ 0x04 → true ≡ isComment (recordAt deck c)
   unfolding recordAt recordOf isComment
@@ -126,24 +172,14 @@ module _ (deck : Bytes) (c : Cursor) (k : ℕ) (f : k ≡ kindAt deck c) where
   comment-foot e = rw (← f, e)
 
   -- only kinds 04, 05 and 06 are comments
-  no-comment : (at : ℕ) → (k ≡ 0x04 → ⊥) → (k ≡ 0x05 → ⊥) → (k ≡ 0x06 → ⊥) → isComment (recordOf k deck at) ≡ false
-  unfolding recordOf isComment
-  no-comment at p q r =
-      rw (ne-eqb k 0x04 p, ne-eqb k 0x05 q, ne-eqb k 0x06 r)
-      (comment-pass (eqb k 0x01) _ _ refl
-      (comment-pass (eqb k 0x02) _ _ refl
-      (comment-pass (eqb k 0x03) _ _ refl
-      (comment-pass (eqb k 0x07) _ _ refl
-      (comment-pass (eqb k 0x08) _ _ refl
-      (comment-pass (eqb k 0x09) _ _ refl
-      (comment-pass (eqb k 0x21) _ _ refl
-      (comment-pass (eqb k 0x22) _ _ refl
-      (comment-pass (eqb k 0x23) _ _ refl
-      (comment-pass (eqb k 0x24) _ _ refl refl))))))))))
-
   pub comment-other : (k ≡ 0x04 → ⊥) → (k ≡ 0x05 → ⊥) → (k ≡ 0x06 → ⊥) → false ≡ isComment (recordAt deck c)
-  unfolding recordAt
-  comment-other p q r = rw (← f, no-comment (c .at + 1) p q r)
+  unfolding recordAt recordOf isComment
+  comment-other p q r =
+      rw (← f, ne-eqb k 0x04 p, ne-eqb k 0x05 q, ne-eqb k 0x06 r)
+      (sym (no 0x01 _ _ refl (no 0x02 _ _ refl (no 0x03 _ _ refl (no 0x07 _ _ refl (no 0x08 _ _ refl (no 0x09 _ _ refl (no 0x21 _ _ refl (no 0x22 _ _ refl (no 0x23 _ _ refl (no 0x24 _ _ refl refl)))))))))))
+    where
+      no : (n : ℕ) (x y : Record) → isComment x ≡ false → isComment y ≡ false → isComment (if eqb k n then x else y) ≡ false
+      no n x y = either (λ (r : Record). isComment r ≡ false) (eqb k n) {x = x} {y = y}
 
 module _ (deck : Bytes) where
   pub comment-stop : (n : ℕ) (c : Cursor) (b : Bool) → b ≡ isNode (recordAt deck c) → b ≡ true → false ≡ commentFrom deck n c
@@ -172,7 +208,7 @@ module _ (deck : Bytes) where
 
 module _ (deck : Bytes) (c : Cursor) (k : c .at ≤ length deck) (p : Cursor) (e : p ≡ headAt deck c .place) where
   pub own-within : p .at ≤ length deck
-  own-within = let o = head-at-onward deck c k in rw e (omega (arith, o .beyond, o .within))
+  own-within = rw e (place-within deck c k)
 
   kids-are : (n : ℕ) → n ≡ kidsOf (recordAt deck p) → n ≡ kidsOf (headAt deck c .own)
   kids-are n q = q ∙ ap (λ (x : Cursor). kidsOf (recordAt deck x)) e ∙ ap kidsOf (sym (head-at-onward deck c k .own))

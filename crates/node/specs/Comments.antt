@@ -18,7 +18,7 @@ use Rattle.node.specs.Head.{onto, noLead, addTo, headed, headFrom, headA
 
 -- head comments, an inline comment, or foot comments
 unfoldable pub commented : Lead → Bool
-commented l = not (eqb (l .heads .count) 0) || not (eqb (l .remark .present) 0) || not (eqb (l .foots .count) 0)
+commented l = not (eqb (l .heads .count) 0) || not (eqb (l .remark .at) 0) || not (eqb (l .foots .count) 0)
 
 unfoldable pub isComment : Record → Bool
 isComment (is.Tag t) = false
@@ -63,8 +63,8 @@ added (is.Tag t) c l = or-none _
 added (is.Anchor t) c l = or-none _
 added (is.Source i) c l = or-none _
 added (is.Head h) c l = rw (counted (l .heads .count)) (sym (or-true (commented l)))
-added (is.Inline t) c l = rw (or-true (not (eqb (l .heads .count) 0))) (sym (or-true (commented l)))
-added (is.Foot t) c l = rw (counted (l .foots .count)) (or-true (not (eqb (l .heads .count) 0) || not (eqb (l .remark .present) 0)) ∙ sym (or-true (commented l)))
+added (is.Inline t) c l = rw (counted (c .at), or-true (not (eqb (l .heads .count) 0))) (sym (or-true (commented l)))
+added (is.Foot t) c l = rw (counted (l .foots .count)) (or-true (not (eqb (l .heads .count) 0) || not (eqb (l .remark .at) 0)) ∙ sym (or-true (commented l)))
 added (is.Raw t) c l = or-none _
 added (is.Directive t) c l = or-none _
 added (is.Layout s) c l = or-none _

@@ -18,8 +18,7 @@ use Rattle.definition.specs.declared.Record.the-variants as is
 use Rattle.deck.specs.Next.{nextOf}
 use Rattle.deck.specs.Kids.{kidsOf, twice, no-kids}
 use Rattle.node.specs.declared.Lead.{Lead}
-use Rattle.node.specs.declared.Head.{Head}
-use Rattle.node.specs.Head.{addTo, headed, headFrom, headAt, ownFrom, noLead}
+use Rattle.node.specs.Head.{Head, addTo, headed, headFrom, headAt, ownFrom, noLead}
 use Rattle.node.specs.Total.{Got, keptOf, broughtOf, itemsFrom, pairsFrom, shape, shapeOf, nullAt, nodeFrom, treeAt}
 
 -- n siblings passed, one after another
@@ -99,6 +98,10 @@ module _ (deck : Bytes) where
   pub head-at-onward : (c : Cursor) → c .at ≤ length deck → Onward deck c (headAt deck c)
   unfolding headAt
   head-at-onward c k = head-onward (length deck) noLead c k
+
+  -- the own record's cursor lies within the deck
+  pub place-within : (c : Cursor) → c .at ≤ length deck → headAt deck c .place .at ≤ length deck
+  place-within c k = let o = head-at-onward c k in omega (arith, o .beyond, o .within)
 
   -- where the own record stands does not depend on what the leading ones say
   own-from : (n : ℕ) (l : Lead) (c : Cursor) → headFrom deck n l c .place ≡ ownFrom deck n c
@@ -249,7 +252,7 @@ module _ (deck pool : Bytes) where
   shape-of-moves F f c k =
       let o = head-at-onward deck c k in
       let h = headAt deck c in
-      let m = shape-moves deck pool F f (h .place .at) (keptOf deck pool (h .lead)) (broughtOf pool (h .lead)) (h .own) (h .next) (o .within) in
+      let m = shape-moves deck pool F f (h .place .at) (keptOf deck pool (h .lead)) (broughtOf deck pool (h .lead)) (h .own) (h .next) (o .within) in
       (omega (arith, o .ahead, o .beyond, m .0), m .1)
 
   node-moves : (n : ℕ) (c : Cursor) → c .at ≤ length deck → Moves deck c (nodeFrom deck pool n c .next)

@@ -1,4 +1,4 @@
--- A node's head, as a total function of the deck's bytes: what its leading records say (texts as references, the records that may repeat as
+-- A node's head, as a total function of the deck's bytes: what its leading records say (by their places, the records that may repeat as
 -- the first one's cursor and their number), its own record, that record's cursor and the one after it. These are definitions.
 use Prim.Native.Nat.{ℕ, zero, suc, _+_, _≤_}
 use lib.ListN.{length}
@@ -7,10 +7,6 @@ use Rattle.definition.specs.Base.{Bytes, if_then_else_}
 use Rattle.definition.specs.Records.{recordAt}
 use Rattle.definition.specs.Deck.{isNode, noLines}
 use Rattle.definition.specs.declared.Cursor.{Cursor}
-use Rattle.definition.specs.declared.Text.{Text}
-use Rattle.definition.specs.declared.File.the-variants.{Absent}
-use Rattle.definition.specs.declared.Include.{Include}
-use Rattle.definition.specs.declared.Trailer.{Trailer}
 use Rattle.definition.specs.declared.Lines.{Lines}
 use Rattle.definition.specs.declared.Record.{Record}
 use Rattle.definition.specs.declared.Record.the-variants as is
@@ -20,22 +16,19 @@ use Rattle.node.specs.declared.Origin.{Origin}
 use Rattle.node.specs.declared.Remark.{Remark}
 use Rattle.node.specs.declared.Run.{Run}
 use Rattle.node.specs.declared.Lead.{Lead}
-use Rattle.node.specs.declared.Head.{Head}
-
-abbrev pub noText : Text
-noText = record { from = 0; len = 0 }
+use Rattle.node.specs.declared.Front.{Front}
 
 abbrev pub noHeld : Held
-noHeld = record { present = 0; text = noText }
+noHeld = record { at = 0 }
 
 abbrev pub noRun : Run
 noRun = record { first = record { at = 0 }; count = 0 }
 
 abbrev pub noOrigin : Origin
-noOrigin = record { present = 0; include = record { tag = noText; target = noText; file = Absent } }
+noOrigin = record { at = 0 }
 
 abbrev pub noRemark : Remark
-noRemark = record { present = 0; trailer = record { text = noText; spaces = 0 } }
+noRemark = record { at = 0 }
 
 abbrev pub noLead : Lead
 noLead = record { tag = noHeld; anchor = noHeld; origin = noOrigin; heads = noRun; remark = noRemark; foots = noRun; raw = noHeld; directives = noRun; lines = noLines }
@@ -44,21 +37,21 @@ noLead = record { tag = noHeld; anchor = noHeld; origin = noOrigin; heads = noRu
 unfoldable pub onto : Run → Cursor → Run
 onto r c = record { first = if eqb (r .count) 0 then c else r .first; count = r .count + 1 }
 
--- one field said anew
-abbrev pub withTag : Text → Lead → Lead
-withTag t l = record { tag = record { present = 1; text = t }; anchor = l .anchor; origin = l .origin; heads = l .heads; remark = l .remark; foots = l .foots; raw = l .raw; directives = l .directives; lines = l .lines }
+-- one field said anew, by the record at a cursor
+abbrev pub withTag : Cursor → Lead → Lead
+withTag c l = record { tag = record { at = c .at + 1 }; anchor = l .anchor; origin = l .origin; heads = l .heads; remark = l .remark; foots = l .foots; raw = l .raw; directives = l .directives; lines = l .lines }
 
-abbrev pub withAnchor : Text → Lead → Lead
-withAnchor t l = record { tag = l .tag; anchor = record { present = 1; text = t }; origin = l .origin; heads = l .heads; remark = l .remark; foots = l .foots; raw = l .raw; directives = l .directives; lines = l .lines }
+abbrev pub withAnchor : Cursor → Lead → Lead
+withAnchor c l = record { tag = l .tag; anchor = record { at = c .at + 1 }; origin = l .origin; heads = l .heads; remark = l .remark; foots = l .foots; raw = l .raw; directives = l .directives; lines = l .lines }
 
-abbrev pub withOrigin : Include → Lead → Lead
-withOrigin i l = record { tag = l .tag; anchor = l .anchor; origin = record { present = 1; include = i }; heads = l .heads; remark = l .remark; foots = l .foots; raw = l .raw; directives = l .directives; lines = l .lines }
+abbrev pub withOrigin : Cursor → Lead → Lead
+withOrigin c l = record { tag = l .tag; anchor = l .anchor; origin = record { at = c .at + 1 }; heads = l .heads; remark = l .remark; foots = l .foots; raw = l .raw; directives = l .directives; lines = l .lines }
 
-abbrev pub withRemark : Trailer → Lead → Lead
-withRemark t l = record { tag = l .tag; anchor = l .anchor; origin = l .origin; heads = l .heads; remark = record { present = 1; trailer = t }; foots = l .foots; raw = l .raw; directives = l .directives; lines = l .lines }
+abbrev pub withRemark : Cursor → Lead → Lead
+withRemark c l = record { tag = l .tag; anchor = l .anchor; origin = l .origin; heads = l .heads; remark = record { at = c .at + 1 }; foots = l .foots; raw = l .raw; directives = l .directives; lines = l .lines }
 
-abbrev pub withRaw : Text → Lead → Lead
-withRaw t l = record { tag = l .tag; anchor = l .anchor; origin = l .origin; heads = l .heads; remark = l .remark; foots = l .foots; raw = record { present = 1; text = t }; directives = l .directives; lines = l .lines }
+abbrev pub withRaw : Cursor → Lead → Lead
+withRaw c l = record { tag = l .tag; anchor = l .anchor; origin = l .origin; heads = l .heads; remark = l .remark; foots = l .foots; raw = record { at = c .at + 1 }; directives = l .directives; lines = l .lines }
 
 abbrev pub withLines : Lines → Lead → Lead
 withLines s l = record { tag = l .tag; anchor = l .anchor; origin = l .origin; heads = l .heads; remark = l .remark; foots = l .foots; raw = l .raw; directives = l .directives; lines = s }
@@ -74,13 +67,13 @@ moreDirectives c l = record { tag = l .tag; anchor = l .anchor; origin = l .orig
 
 -- what the record at a cursor adds
 unfoldable pub addTo : Record → Cursor → Lead → Lead
-addTo (is.Tag t) c l = withTag t l
-addTo (is.Anchor t) c l = withAnchor t l
-addTo (is.Source i) c l = withOrigin i l
+addTo (is.Tag t) c l = withTag c l
+addTo (is.Anchor t) c l = withAnchor c l
+addTo (is.Source i) c l = withOrigin c l
 addTo (is.Head h) c l = moreHeads c l
-addTo (is.Inline t) c l = withRemark t l
+addTo (is.Inline t) c l = withRemark c l
 addTo (is.Foot t) c l = moreFoots c l
-addTo (is.Raw t) c l = withRaw t l
+addTo (is.Raw t) c l = withRaw c l
 addTo (is.Directive t) c l = moreDirectives c l
 addTo (is.Layout s) c l = withLines s l
 addTo is.Null c l = l
@@ -94,6 +87,16 @@ pub record Small (n : ℕ) (l : Lead) : Type 0 where
   pub heads : l .heads .count ≤ n
   pub foots : l .foots .count ≤ n
   pub directives : l .directives .count ≤ n
+
+pub record Head : Type 0 where
+  pub lead : Lead
+  pub own : Record
+  pub place : Cursor
+  pub next : Cursor
+
+-- what the program keeps of it
+unfoldable pub frontOf : Head → Front
+frontOf h = record { lead = h .lead; own = h .place }
 
 -- the head whose own record is the record at a cursor
 unfoldable pub headed : Bytes → Lead → Cursor → Head

@@ -6,7 +6,7 @@ use mathlib.Core.Option.{Option, none, some}
 use lib.ListN.{length}
 use lib.Dec.{eqb, leb}
 use Rattle.definition.specs.Base.{Bytes, if_then_else_}
-use Rattle.definition.specs.Records.{textAt, headingAt}
+use Rattle.definition.specs.Records.{textAt, includeAt, headingAt, trailerAt}
 use Rattle.definition.specs.Tree.{Source, Inline, Kept, Brought, Node, Nodes, Pairs, node, null, scalar, alias, sequence, mapping, end, item, close, pair}
 use Rattle.definition.specs.Tree as tree
 use Rattle.definition.specs.Deck.{words, marked, layoutOf, sourceOf, headOf, inlineOf}
@@ -17,19 +17,18 @@ use Rattle.node.specs.declared.Held.{Held}
 use Rattle.node.specs.declared.Origin.{Origin}
 use Rattle.node.specs.declared.Remark.{Remark}
 use Rattle.node.specs.declared.Lead.{Lead}
-use Rattle.node.specs.declared.Head.{Head}
-use Rattle.node.specs.Head.{headAt}
+use Rattle.node.specs.Head.{Head, headAt}
 
 -- ---- what a head says of its node
 
-unfoldable pub heldOf : Bytes → Held → Option Bytes
-heldOf pool h = if eqb (h .present) 0 then none else some (words pool (h .text))
+unfoldable pub heldOf : Bytes → Bytes → Held → Option Bytes
+heldOf deck pool h = if eqb (h .at) 0 then none else some (words pool (textAt deck (h .at)))
 
-unfoldable pub originOf : Bytes → Origin → Option Source
-originOf pool o = if eqb (o .present) 0 then none else some (sourceOf pool (o .include))
+unfoldable pub originOf : Bytes → Bytes → Origin → Option Source
+originOf deck pool o = if eqb (o .at) 0 then none else some (sourceOf pool (includeAt deck (o .at)))
 
-unfoldable pub remarkOf : Bytes → Remark → Option Inline
-remarkOf pool m = if eqb (m .present) 0 then none else some (inlineOf pool (m .trailer))
+unfoldable pub remarkOf : Bytes → Bytes → Remark → Option Inline
+remarkOf deck pool m = if eqb (m .at) 0 then none else some (inlineOf pool (trailerAt deck (m .at)))
 
 -- n entries, s bytes apart
 unfoldable pub runFrom : {A : Type 0} → (Cursor → A) → ℕ → ℕ → Cursor → List A
@@ -46,20 +45,20 @@ textOf deck pool c = words pool (textAt deck (c .at + 1))
 unfoldable pub keptOf : Bytes → Bytes → Lead → Kept
 keptOf deck pool l =
     record {
-      source = originOf pool (l .origin);
+      source = originOf deck pool (l .origin);
       heads = runFrom (commentAt deck pool) 6 (l .heads .count) (l .heads .first);
-      inline = remarkOf pool (l .remark);
+      inline = remarkOf deck pool (l .remark);
       foots = runFrom (textOf deck pool) 5 (l .foots .count) (l .foots .first);
       directives = runFrom (textOf deck pool) 5 (l .directives .count) (l .directives .first);
       layout = layoutOf (l .lines);
     }
 
-unfoldable pub broughtOf : Bytes → Lead → Brought
-broughtOf pool l =
+unfoldable pub broughtOf : Bytes → Bytes → Lead → Brought
+broughtOf deck pool l =
     record {
-      tag = heldOf pool (l .tag);
-      anchor = heldOf pool (l .anchor);
-      raw = heldOf pool (l .raw);
+      tag = heldOf deck pool (l .tag);
+      anchor = heldOf deck pool (l .anchor);
+      raw = heldOf deck pool (l .raw);
       modified = marked (l .lines .marks) 1;
     }
 
@@ -103,11 +102,11 @@ shape pool f p a b (is.Mapping g) c = let ps = pairsFrom f (g .count) c in recor
 
 -- the node of a head
 unfoldable pub shapeOf : Bytes → Bytes → (Cursor → Got Node) → Head → Got Node
-shapeOf deck pool f h = shape pool f (h .place .at) (keptOf deck pool (h .lead)) (broughtOf pool (h .lead)) (h .own) (h .next)
+shapeOf deck pool f h = shape pool f (h .place .at) (keptOf deck pool (h .lead)) (broughtOf deck pool (h .lead)) (h .own) (h .next)
 
 -- what no deck is left for: a null, of no bytes
 unfoldable pub nullAt : Bytes → Bytes → Cursor → Got Node
-nullAt deck pool c = let l = headAt deck c .lead in record { value = node (c .at) (keptOf deck pool l) (broughtOf pool l) null; next = c }
+nullAt deck pool c = let l = headAt deck c .lead in record { value = node (c .at) (keptOf deck pool l) (broughtOf deck pool l) null; next = c }
 
 unfoldable pub nodeFrom : Bytes → Bytes → ℕ → Cursor → Got Node
 nodeFrom deck pool zero c = shapeOf deck pool (nullAt deck pool) (headAt deck c)

@@ -1,35 +1,27 @@
-// A node's head: what its leading records say, its own record, and the cursor after it. Total: nothing is asked of the deck's bytes.
+// What a node's leading records say, its own record's cursor, and where its subtree ends. Total: nothing is asked of the deck's bytes.
 use definition::Cursor;
-use definition::File;
-use definition::Include;
 use definition::Lines;
-use definition::Record;
-use definition::Text;
-use definition::Trailer;
 ghost use mathlib.Core.Path.{_≡_};
-ghost use Prim.Native.Nat.{_<_, _≤_};
+ghost use Prim.Native.Nat.{_<_, _≤_, _^_};
 ghost use lib.ListN.{length};
 ghost use Rattle.definition.specs.Records.{recordAt};
-ghost use Rattle.node.specs.Head.{noLead, onto, withTag, withAnchor, withOrigin, withRemark, withRaw, withLines, moreHeads, moreFoots, moreDirectives, addTo, Small, headed, headAt};
+ghost use Rattle.node.specs.Head.{noLead, onto, withTag, withAnchor, withOrigin, withRemark, withRaw, withLines, moreHeads, moreFoots, moreDirectives, addTo, Small, frontOf, headAt};
 ghost use Rattle.node.specs.Ends.{Ends};
 ghost use Rattle.node.specs.Comments.{isComment, commented};
 
-// A text that may be absent: present is 0 or 1.
+// A tag, an anchor or a raw text that may be absent: the place of its record's body, or 0.
 pub struct Held {
-    pub present: usize,
-    pub text: Text,
+    pub at: usize,
 }
 
-// An include that may be absent.
+// An include that may be absent, by its place.
 pub struct Origin {
-    pub present: usize,
-    pub include: Include,
+    pub at: usize,
 }
 
-// An inline comment that may be absent.
+// An inline comment that may be absent, by its place.
 pub struct Remark {
-    pub present: usize,
-    pub trailer: Trailer,
+    pub at: usize,
 }
 
 // Records of one kind, one after another: the first one's cursor, and how many they are.
@@ -51,34 +43,19 @@ pub struct Lead {
     pub lines: Lines,
 }
 
-pub struct Head {
+// What a node's leading records say, and the cursor of its own record.
+pub struct Front {
     pub lead: Lead,
-    pub own: Record,
-    pub place: Cursor,
-    pub next: Cursor,
+    pub own: Cursor,
 }
 
 // No leading records.
 fn no_lead() -> Lead
     ensures { λ r. ⌜ r ≡ noLead ⌝ }
 {
-    let text = Text { from: 0, len: 0 };
-    let held = Held { present: 0, text };
-    let file = File::Absent;
-    let include = Include {
-        tag: text,
-        target: text,
-        file,
-    };
-    let origin = Origin {
-        present: 0,
-        include,
-    };
-    let trailer = Trailer { text, spaces: 0 };
-    let remark = Remark {
-        present: 0,
-        trailer,
-    };
+    let held = Held { at: 0 };
+    let origin = Origin { at: 0 };
+    let remark = Remark { at: 0 };
     let first = Cursor { at: 0 };
     let run = Run { first, count: 0 };
     let lines = Lines {
@@ -116,58 +93,48 @@ fn one_more(r: Run, c: Cursor) -> Run
     }
 }
 
-// The leaves: one field said anew.
-fn with_tag(mut l: Lead, t: Text) -> Lead
-    ensures { λ r. ⌜ r ≡ withTag t l ⌝ }
+// The leaves: one field said anew, by the record at a cursor.
+fn with_tag(mut l: Lead, c: Cursor) -> Lead
+    requires { ⌜ c .at < 2 ^ 62 ⌝ }
+    ensures { λ r. ⌜ r ≡ withTag c l ⌝ }
 {
-    let tag = Held {
-        present: 1,
-        text: t,
-    };
+    let tag = Held { at: c.at + 1 };
     l.tag = tag;
     l
 }
 
-fn with_anchor(mut l: Lead, t: Text) -> Lead
-    ensures { λ r. ⌜ r ≡ withAnchor t l ⌝ }
+fn with_anchor(mut l: Lead, c: Cursor) -> Lead
+    requires { ⌜ c .at < 2 ^ 62 ⌝ }
+    ensures { λ r. ⌜ r ≡ withAnchor c l ⌝ }
 {
-    let anchor = Held {
-        present: 1,
-        text: t,
-    };
+    let anchor = Held { at: c.at + 1 };
     l.anchor = anchor;
     l
 }
 
-fn with_origin(mut l: Lead, include: Include) -> Lead
-    ensures { λ r. ⌜ r ≡ withOrigin include l ⌝ }
+fn with_origin(mut l: Lead, c: Cursor) -> Lead
+    requires { ⌜ c .at < 2 ^ 62 ⌝ }
+    ensures { λ r. ⌜ r ≡ withOrigin c l ⌝ }
 {
-    let origin = Origin {
-        present: 1,
-        include,
-    };
+    let origin = Origin { at: c.at + 1 };
     l.origin = origin;
     l
 }
 
-fn with_remark(mut l: Lead, trailer: Trailer) -> Lead
-    ensures { λ r. ⌜ r ≡ withRemark trailer l ⌝ }
+fn with_remark(mut l: Lead, c: Cursor) -> Lead
+    requires { ⌜ c .at < 2 ^ 62 ⌝ }
+    ensures { λ r. ⌜ r ≡ withRemark c l ⌝ }
 {
-    let remark = Remark {
-        present: 1,
-        trailer,
-    };
+    let remark = Remark { at: c.at + 1 };
     l.remark = remark;
     l
 }
 
-fn with_raw(mut l: Lead, t: Text) -> Lead
-    ensures { λ r. ⌜ r ≡ withRaw t l ⌝ }
+fn with_raw(mut l: Lead, c: Cursor) -> Lead
+    requires { ⌜ c .at < 2 ^ 62 ⌝ }
+    ensures { λ r. ⌜ r ≡ withRaw c l ⌝ }
 {
-    let raw = Held {
-        present: 1,
-        text: t,
-    };
+    let raw = Held { at: c.at + 1 };
     l.raw = raw;
     l
 }
@@ -206,64 +173,45 @@ fn more_directives(mut l: Lead, c: Cursor) -> Lead
     l
 }
 
-// What a record adds.
-fn with_record(l: Lead, r: Record, c: Cursor) -> Lead
-    requires { ⌜ Small 4294967295 l ⌝ }
-    ensures { λ n. ⌜ n ≡ addTo r c l ⌝ }
+// What the record at a cursor adds.
+fn with_record(deck: &[u8], l: Lead, c: Cursor) -> Lead
+    requires { ⌜ (c .at ≤ length (now deck)) × (length (now deck) ≤ 65536) × Small 4294967295 l ⌝ }
+    ensures { λ n. ⌜ n ≡ addTo (recordAt (now (deck .entry)) c) c l ⌝ }
 {
-    match r {
-        Record::Tag(t) => with_tag(l, t),
-        Record::Anchor(t) => with_anchor(l, t),
-        Record::Source(include) => with_origin(l, include),
-        Record::Head(_) => more_heads(l, c),
-        Record::Inline(trailer) => with_remark(l, trailer),
-        Record::Foot(_) => more_foots(l, c),
-        Record::Raw(t) => with_raw(l, t),
-        Record::Directive(_) => more_directives(l, c),
-        Record::Layout(lines) => with_lines(l, lines),
-        Record::Null => l,
-        Record::Scalar(_) => l,
-        Record::Alias(_) => l,
-        Record::Sequence(_) => l,
-        Record::Mapping(_) => l,
+    match deck::kind(deck, c) {
+        0x01 => with_tag(l, c),
+        0x02 => with_anchor(l, c),
+        0x03 => with_origin(l, c),
+        0x04 => more_heads(l, c),
+        0x05 => with_remark(l, c),
+        0x06 => more_foots(l, c),
+        0x07 => with_raw(l, c),
+        0x08 => more_directives(l, c),
+        0x09 => {
+            let body = Cursor { at: c.at + 1 };
+            with_lines(l, deck::lines_at(deck, body))
+        }
+        _ => l,
     }
 }
 
-// The head whose own record is the record at a cursor.
-fn head_with(deck: &[u8], lead: Lead, c: Cursor) -> Head
-    requires { ⌜ c .at ≤ length (now deck) ⌝ }
-    ensures { λ r. ⌜ r ≡ headed (now (deck .entry)) lead c ⌝ }
-{
-    let entry = deck::read(deck, c);
-    let own = entry.item;
-    let next = entry.next;
-    Head {
-        lead,
-        own,
-        place: c,
-        next,
-    }
-}
-
-// The head of the node at a cursor.
-pub fn head_at(deck: &[u8], c: Cursor) -> Head
+// What the leading records of the node at a cursor say, and where its own record is.
+pub fn front_at(deck: &[u8], c: Cursor) -> Front
     requires { ⌜ (c .at ≤ length (now deck)) × (length (now deck) ≤ 65536) ⌝ }
-    ensures { λ r. ⌜ r ≡ headAt (now (deck .entry)) c ⌝ }
+    ensures { λ r. ⌜ r ≡ frontOf (headAt (now (deck .entry)) c) ⌝ }
 {
     let mut lead = no_lead();
     let mut here = c;
     let mut left = deck.len();
     while left > 0 {
         if deck::is_node(deck, here) {
-            return head_with(deck, lead, here);
+            return Front { lead, own: here };
         }
-        let entry = deck::read(deck, here);
-        let item = entry.item;
-        lead = with_record(lead, item, here);
-        here = entry.next;
+        lead = with_record(deck, lead, here);
+        here = deck::next(deck, here);
         left -= 1;
     }
-    head_with(deck, lead, here)
+    Front { lead, own: here }
 }
 
 // The cursor of the own record of the node at a cursor: its leading records passed over.

@@ -9,12 +9,16 @@ use mathlib.Core.Option.{Option, none, some}
 use lib.Dec.{eqb}
 use borrow.Author.Tests.{eq-eqb, ne-eqb}
 use Rattle.definition.specs.Base.{Bytes, if_then_else_, isSome}
-use Rattle.definition.specs.Ascii.{SP, '&'}
+use Rattle.definition.specs.Ascii.{SP}
+use Rattle.definition.specs.Records.{textAt, includeAt, trailerAt}
 use Rattle.definition.specs.Tree.{Kept}
 use Rattle.definition.specs.Deck.{words, inlineOf, sourceOf}
 use Rattle.definition.specs.Pen.{Script, put, comment, directive, _>>_, nothing}
-use Rattle.definition.specs.Walk.{prop, props, hasProps, directiveOf}
+use Rattle.definition.specs.Walk.{prop, directiveOf}
 use Rattle.definition.specs.declared.Cursor.{Cursor}
+use Rattle.definition.specs.declared.Include.{Include}
+use Rattle.definition.specs.declared.Text.{Text}
+use Rattle.definition.specs.declared.Trailer.{Trailer}
 use Rattle.definition.specs.declared.Settings.{Settings}
 use Rattle.node.specs.declared.Held.{Held}
 use Rattle.node.specs.declared.Lead.{Lead}
@@ -26,60 +30,63 @@ use Rattle.pen.specs.Pen.{Pen, pen, put1, puts, and-then, noteOf, noted, ink}
 use Rattle.parts.specs.declared.Entries.{Entries}
 use Rattle.parts.specs.declared.Entries.the-variants.{Heads, Over, Under, Foots, Directives}
 use Rattle.parts.specs.Draws.{Draws, both, stays}
-use Rattle.parts.specs.Lines.{tagFirst}
-use Rattle.parts.specs.Runs.{stride, entry, entries, runOf, repeated, repeated-drawn, Short, hasHeld, has-props-is}
+use Rattle.parts.specs.Lines.{propsBy, tagFirst}
+use Rattle.parts.specs.Runs.{stride, entry, entries, runOf, repeated, repeated-drawn, Short, hasHeld, held-some}
 
 -- ---- a part that may be absent
 
-neither : (x y : Option Bytes) {P : Pen} → (isSome x || isSome y) ≡ false → Draws (prop [] x (SP ∷ []) >> prop ('&' ∷ []) y (SP ∷ [])) P P
-unfolding prop isSome
-neither none none e = both nothing nothing stays stays
-neither none (some t) e = absurd (true≢false e)
-neither (some t) y e = absurd (true≢false e)
+neither : (before between after : Bytes) (x y : Option Bytes) {P : Pen} → (isSome x || isSome y) ≡ false → Draws (propsBy before x between y after) P P
+unfolding propsBy prop isSome
+neither before between after none none e = both nothing nothing stays stays
+neither before between after none (some t) e = absurd (true≢false e)
+neither before between after (some t) y e = absurd (true≢false e)
 
-pub no-props : (pool : Bytes) (l : Lead) (b : Bool) {P : Pen} → b ≡ (hasHeld (l .tag) || hasHeld (l .anchor)) → b ≡ false → Draws (props (broughtOf pool l)) P P
-unfolding props hasProps
-no-props pool l b e f = neither (broughtOf pool l .tag) (broughtOf pool l .anchor) (has-props-is pool l ∙ sym e ∙ f)
+-- neither a tag nor an anchor
+pub no-props :
+    (deck pool before between after : Bytes) (x y : Held) (b : Bool) {P : Pen} → b ≡ (hasHeld x || hasHeld y) → b ≡ false
+    → Draws (propsBy before (heldOf deck pool x) between (heldOf deck pool y) after) P P
+no-props deck pool before between after x y b e f =
+    neither before between after (heldOf deck pool x) (heldOf deck pool y) (rw (held-some deck pool x, held-some deck pool y) (sym e ∙ f))
 
-pub no-remark : (pool : Bytes) (place : ℕ) (m : Remark) (P : Pen) → m .present ≡ 0 → Draws (comment place (remarkOf pool m)) P P
+pub no-remark : (deck pool : Bytes) (place : ℕ) (m : Remark) (P : Pen) → m .at ≡ 0 → Draws (comment place (remarkOf deck pool m)) P P
 unfolding ink noteOf remarkOf
-no-remark pool place m P e = record { drawn = λ s. rw (eq-eqb _ _ e) }
+no-remark deck pool place m P e = record { drawn = λ s. rw (eq-eqb _ _ e) }
 
 pub some-remark :
-    (pool : Bytes) (place : ℕ) (m : Remark) (t : Bytes) (P Q : Pen) → (m .present ≡ 0 → ⊥) → t ≡ words pool (m .trailer .text)
-    → Q ≡ noted place (record { text = t; spaces = m .trailer .spaces }) P → Draws (comment place (remarkOf pool m)) P Q
+    (deck pool : Bytes) (place : ℕ) (m : Remark) (r : Trailer) (t : Bytes) (P Q : Pen) → (m .at ≡ 0 → ⊥) → r ≡ trailerAt deck (m .at) → t ≡ words pool (r .text)
+    → Q ≡ noted place (record { text = t; spaces = r .spaces }) P → Draws (comment place (remarkOf deck pool m)) P Q
 unfolding ink noteOf remarkOf inlineOf
-some-remark pool place m t P Q e f d = record { drawn = λ s. rw (ne-eqb _ _ e, ← f) d }
+some-remark deck pool place m r t P Q e k f d = record { drawn = λ s. rw (ne-eqb _ _ e, ← k, ← f) d }
 
-pub no-prop : (pool before : Bytes) (h : Held) (after : Bytes) (P : Pen) → h .present ≡ 0 → Draws (prop before (heldOf pool h) after) P P
+pub no-prop : (deck pool before : Bytes) (h : Held) (after : Bytes) (P : Pen) → h .at ≡ 0 → Draws (prop before (heldOf deck pool h) after) P P
 unfolding ink prop heldOf nothing puts
-no-prop pool before h after P e = record { drawn = λ s. rw (eq-eqb _ _ e) }
+no-prop deck pool before h after P e = record { drawn = λ s. rw (eq-eqb _ _ e) }
 
 pub some-prop :
-    (pool before : Bytes) (h : Held) (after t : Bytes) (P Q R S : Pen) → (h .present ≡ 0 → ⊥) → t ≡ words pool (h .text)
-    → Q ≡ puts before P → R ≡ puts t Q → S ≡ puts after R → Draws (prop before (heldOf pool h) after) P S
+    (deck pool before : Bytes) (h : Held) (after : Bytes) (x : Text) (t : Bytes) (P Q R S : Pen) → (h .at ≡ 0 → ⊥) → x ≡ textAt deck (h .at) → t ≡ words pool x
+    → Q ≡ puts before P → R ≡ puts t Q → S ≡ puts after R → Draws (prop before (heldOf deck pool h) after) P S
 unfolding ink prop heldOf
-some-prop pool before h after t P Q R S e f x y z = record { drawn = λ s. rw (ne-eqb _ _ e, ← f) (and-then P (before ++ t) after (and-then P before t x y) z) }
+some-prop deck pool before h after x t P Q R S e k f u v w = record { drawn = λ s. rw (ne-eqb _ _ e, ← k, ← f) (and-then P (before ++ t) after (and-then P before t u v) w) }
 
-pub no-directive : (pool : Bytes) (o : Origin) (P : Pen) → o .present ≡ 0 → Draws (put directive (directiveOf (originOf pool o))) P P
+pub no-directive : (deck pool : Bytes) (o : Origin) (P : Pen) → o .at ≡ 0 → Draws (put directive (directiveOf (originOf deck pool o))) P P
 unfolding ink directiveOf originOf puts
-no-directive pool o P e = record { drawn = λ s. rw (eq-eqb _ _ e) }
+no-directive deck pool o P e = record { drawn = λ s. rw (eq-eqb _ _ e) }
 
 pub some-directive :
-    (pool : Bytes) (o : Origin) (t u : Bytes) (P Q R S : Pen) → (o .present ≡ 0 → ⊥) → t ≡ words pool (o .include .tag) → u ≡ words pool (o .include .target)
-    → Q ≡ puts t P → R ≡ put1 Q SP → S ≡ puts u R → Draws (put directive (directiveOf (originOf pool o))) P S
+    (deck pool : Bytes) (o : Origin) (i : Include) (t u : Bytes) (P Q R S : Pen) → (o .at ≡ 0 → ⊥) → i ≡ includeAt deck (o .at) → t ≡ words pool (i .tag) → u ≡ words pool (i .target)
+    → Q ≡ puts t P → R ≡ put1 Q SP → S ≡ puts u R → Draws (put directive (directiveOf (originOf deck pool o))) P S
 unfolding ink directiveOf originOf sourceOf puts
-some-directive pool o t u P Q R S e f g x y z =
-    record { drawn = λ s. rw (ne-eqb _ _ e, ← f, ← g) (and-then P t (SP ∷ u) x (z ∙ ap (puts u) y)) }
+some-directive deck pool o i t u P Q R S e k f g x y z =
+    record { drawn = λ s. rw (ne-eqb _ _ e, ← k, ← f, ← g) (and-then P t (SP ∷ u) x (z ∙ ap (puts u) y)) }
 
 -- the tag before no anchor, and before one
-pub alone : (pool : Bytes) (l : Lead) (P Q : Pen) → l .anchor .present ≡ 0 → Draws (prop [] (heldOf pool (l .tag)) []) P Q → Draws (tagFirst (broughtOf pool l)) P Q
+pub alone : (deck pool : Bytes) (l : Lead) (P Q : Pen) → l .anchor .at ≡ 0 → Draws (prop [] (heldOf deck pool (l .tag)) []) P Q → Draws (tagFirst (broughtOf deck pool l)) P Q
 unfolding tagFirst broughtOf isSome
-alone pool l P Q e d = unfold heldOf in rw (eq-eqb _ _ e) d
+alone deck pool l P Q e d = unfold heldOf in rw (eq-eqb _ _ e) d
 
-pub followed : (pool : Bytes) (l : Lead) (P Q : Pen) → (l .anchor .present ≡ 0 → ⊥) → Draws (prop [] (heldOf pool (l .tag)) (SP ∷ [])) P Q → Draws (tagFirst (broughtOf pool l)) P Q
+pub followed : (deck pool : Bytes) (l : Lead) (P Q : Pen) → (l .anchor .at ≡ 0 → ⊥) → Draws (prop [] (heldOf deck pool (l .tag)) (SP ∷ [])) P Q → Draws (tagFirst (broughtOf deck pool l)) P Q
 unfolding tagFirst broughtOf isSome
-followed pool l P Q e d = unfold heldOf in rw (ne-eqb _ _ e) d
+followed deck pool l P Q e d = unfold heldOf in rw (ne-eqb _ _ e) d
 
 -- ---- records one after another
 
@@ -113,3 +120,9 @@ short-run Directives l r h k = rw k (omega (arith, h .directives-first), omega (
 pub of-run :
     (deck pool : Bytes) (e : Entries) (i : ℕ) (l : Lead) {r : Run} {P Q : Pen} → r ≡ runOf e l → Draws (entries deck pool e i (r .count) (r .first)) P Q → Draws (repeated e (keptOf deck pool l) i) P Q
 of-run deck pool e i l {P = P} k d = record { drawn = λ s. rw k at (d .drawn s) ∙ sym (repeated-drawn deck pool i s e l P) }
+
+-- a run of no records
+pub none-repeated : (deck pool : Bytes) (e : Entries) (i : ℕ) (l : Lead) {P : Pen} → runOf e l .count ≡ 0 → Draws (repeated e (keptOf deck pool l) i) P P
+unfolding ink entries nothing puts
+none-repeated deck pool e i l {P = P} z =
+    record { drawn = λ s. sym (repeated-drawn deck pool i s e l P ∙ ap (λ (n : ℕ). ink s (entries deck pool e i n (runOf e l .first)) P) z) }

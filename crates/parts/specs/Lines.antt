@@ -2,11 +2,19 @@
 use Prim.Native.Nat.{ℕ}
 use mathlib.Core.List.{[], _∷_}
 use mathlib.Core.Option.{Option}
-use Rattle.definition.specs.Base.{if_then_else_, isSome}
-use Rattle.definition.specs.Ascii.{SP}
+use Rattle.definition.specs.Base.{Bytes, if_then_else_, isSome}
+use Rattle.definition.specs.Ascii.{SP, '&'}
 use Rattle.definition.specs.Tree.{Source, Inline, Kept, Brought}
 use Rattle.definition.specs.Pen.{directive, Script, put, comment, endLine, _>>_, newline, indent}
 use Rattle.definition.specs.Walk.{blanks, heads, headsBelow, aboveDash, belowDash, prop, propsCompact, directiveOf}
+
+-- a tag and an anchor: what stands before the tag, before the anchor, and after each
+unfoldable pub propsBy : Bytes → Option Bytes → Bytes → Option Bytes → Bytes → Script
+propsBy before t between a after = prop before t after >> prop between a after
+
+-- each with its space
+unfoldable pub propsOf : Option Bytes → Option Bytes → Script
+propsOf t a = propsBy [] t ('&' ∷ []) a (SP ∷ [])
 
 -- the tag of a line of properties: a space where an anchor follows
 unfoldable pub tagFirst : Brought → Script

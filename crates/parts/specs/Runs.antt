@@ -7,11 +7,11 @@ use mathlib.Core.Option.{Option, none, some}
 use lib.Dec.{eqb}
 use Rattle.definition.specs.Base.{Bytes, if_then_else_, isSome}
 use Rattle.definition.specs.Ascii.{'%'}
-use Rattle.definition.specs.Records.{headingAt}
+use Rattle.definition.specs.Records.{textAt, headingAt}
 use Rattle.definition.specs.Deck.{isBelow, headOf, words}
 use Rattle.definition.specs.Tree.{Head, Kept}
 use Rattle.definition.specs.Pen.{directive, Script, put, _>>_, nothing, newline}
-use Rattle.definition.specs.Walk.{commentLine, commentLines, headsThat, heads, headsAbove, headsBelow, foots, hasProps}
+use Rattle.definition.specs.Walk.{commentLine, commentLines, headsThat, heads, headsAbove, headsBelow, foots, props, hasProps}
 use Rattle.definition.specs.Document.{directives}
 use Rattle.definition.specs.declared.Cursor.{Cursor}
 use Rattle.definition.specs.declared.Settings.{Settings}
@@ -23,6 +23,7 @@ use Rattle.pen.specs.Pen.{Pen, puts, ink}
 use Rattle.parts.specs.declared.Entries.{Entries}
 use Rattle.parts.specs.declared.Entries.the-variants.{Heads, Over, Under, Foots, Directives}
 use Rattle.parts.specs.Draws.{Draws}
+use Rattle.parts.specs.Lines.{propsBy, propsOf}
 
 -- the bytes of a record
 unfoldable pub stride : Entries → ℕ
@@ -75,19 +76,25 @@ pub record Short (l : Lead) : Type 0 where
 
 -- a tag or an anchor is there
 unfoldable pub hasHeld : Held → Bool
-hasHeld h = not (eqb (h .present) 0)
+hasHeld h = not (eqb (h .at) 0)
 
-pub held-some : (pool : Bytes) (h : Held) → isSome (heldOf pool h) ≡ hasHeld h
+pub held-some : (deck pool : Bytes) (h : Held) → isSome (heldOf deck pool h) ≡ hasHeld h
 unfolding hasHeld heldOf isSome
-held-some pool h = go (eqb (h .present) 0)
+held-some deck pool h = go (eqb (h .at) 0)
   where
-    go : (b : Bool) → isSome (if b then none else some (words pool (h .text))) ≡ not b
+    go : (b : Bool) → isSome (if b then none else some (words pool (textAt deck (h .at)))) ≡ not b
     go true = refl
     go false = refl
 
-pub has-props-is : (pool : Bytes) (l : Lead) → hasProps (broughtOf pool l) ≡ (hasHeld (l .tag) || hasHeld (l .anchor))
+pub has-props-is : (deck pool : Bytes) (l : Lead) → hasProps (broughtOf deck pool l) ≡ (hasHeld (l .tag) || hasHeld (l .anchor))
 unfolding hasProps broughtOf
-has-props-is pool l = rw (held-some, held-some)
+has-props-is deck pool l = rw (held-some, held-some)
+
+-- those of a node
+pub of-props :
+    (deck pool : Bytes) (l : Lead) {P Q : Pen} → Draws (propsOf (heldOf deck pool (l .tag)) (heldOf deck pool (l .anchor))) P Q → Draws (props (broughtOf deck pool l)) P Q
+unfolding props propsOf propsBy broughtOf
+of-props deck pool l d = d
 
 module _ (deck pool : Bytes) (i : ℕ) (s : Settings) where
   -- head comments that pass a test

@@ -14,12 +14,12 @@ ghost use lib.ListN.{length};
 ghost use Rattle.definition.specs.Deck.{marked, isBelow};
 ghost use Rattle.definition.specs.Records.{headingAt};
 ghost use Rattle.definition.specs.Pen.{put, comment, directive};
-ghost use Rattle.definition.specs.Walk.{commentLine, aboveDash, belowDash, prop, props, propsCompact, propsLine, directiveOf};
+ghost use Rattle.definition.specs.Walk.{commentLine, heads, aboveDash, belowDash, prop, propsCompact, propsLine, directiveOf};
 ghost use Rattle.node.specs.Total.{heldOf, originOf, remarkOf, keptOf, broughtOf, textOf};
 ghost use Rattle.pen.specs.Pen.{pen};
 ghost use Rattle.parts.specs.Draws.{Draws};
 ghost use Rattle.parts.specs.Runs.{stride, percent, entry, entries, runOf, repeated, Short, hasHeld};
-ghost use Rattle.parts.specs.Lines.{tagFirst, directed, breaks, closes, beforeItem, beforeKey, belowOpen, colonOpen, dashOpen};
+ghost use Rattle.parts.specs.Lines.{propsBy, propsOf, tagFirst, directed, breaks, closes, beforeItem, beforeKey, belowOpen, colonOpen, dashOpen};
 
 // Records that repeat: head comments, those of them over or under their node's introducer alone, foot comments, directives.
 pub enum Entries {
@@ -204,6 +204,24 @@ pub fn put_repeated(
     put_run(w, deck, pool, out, e, indent, run_of(lead, e))
 }
 
+// `emit_head`
+fn put_heads(
+    w: Writer,
+    deck: &[u8],
+    pool: &[u8],
+    out: &mut [u8],
+    lead: Lead,
+    indent: usize,
+) -> Writer
+    requires { ⌜ (length (now out) < 2 ^ 62) × Short lead ⌝ }
+    ensures { λ r. ⌜ Draws (heads (keptOf (now (deck .entry)) (now (pool .entry)) lead) indent) (pen w (now (out .entry))) (pen r (now (out .exit))) ⌝ }
+{
+    if lead.heads.count == 0 {
+        return w;
+    }
+    put_repeated(w, deck, pool, out, lead, Entries::Heads, indent)
+}
+
 // A mark of the layout record.
 pub fn is_marked(marks: usize, m: usize) -> bool
     requires { ⌜ 0 < m ⌝ }
@@ -228,7 +246,7 @@ fn put_above_dash(
     if is_marked(lines.marks, 2) {
         return put_repeated(w, deck, pool, out, lead, Entries::Over, indent);
     }
-    put_repeated(w, deck, pool, out, lead, Entries::Heads, indent)
+    put_heads(w, deck, pool, out, lead, indent)
 }
 
 // `emit_head_below_dash`
@@ -251,93 +269,132 @@ fn put_below_dash(
 }
 
 // A tag or an anchor that is there, with what stands before and after it.
-fn put_prop(w: Writer, pool: &[u8], out: &mut [u8], before: &[u8], h: Held, after: &[u8]) -> Writer
+fn put_prop(
+    w: Writer,
+    deck: &[u8],
+    pool: &[u8],
+    out: &mut [u8],
+    before: &[u8],
+    h: Held,
+    after: &[u8],
+) -> Writer
     requires { ⌜ length (now out) < 2 ^ 62 ⌝ }
-    ensures { λ r. ⌜ Draws (prop (now (before .entry)) (heldOf (now (pool .entry)) h) (now (after .entry))) (pen w (now (out .entry))) (pen r (now (out .exit))) ⌝ }
+    ensures { λ r. ⌜ Draws (prop (now (before .entry)) (heldOf (now (deck .entry)) (now (pool .entry)) h) (now (after .entry))) (pen w (now (out .entry))) (pen r (now (out .exit))) ⌝ }
 {
-    if h.present == 0 {
+    if h.at == 0 {
         return w;
     }
     let w1 = w.text(out, before);
-    let w2 = w1.text(out, deck::words_of(pool, h.text));
+    let w2 = w1.text(out, deck::words_of(pool, deck::text_in(deck, h.at)));
     w2.text(out, after)
 }
 
-// The tag and the anchor of a node that has one of them.
-fn put_held(w: Writer, pool: &[u8], out: &mut [u8], lead: Lead) -> Writer
+// A tag and an anchor, where they are there: what stands before the tag, before the anchor, and after each.
+fn put_both(
+    w: Writer,
+    deck: &[u8],
+    pool: &[u8],
+    out: &mut [u8],
+    before: &[u8],
+    tag: Held,
+    between: &[u8],
+    anchor: Held,
+    after: &[u8],
+) -> Writer
     requires { ⌜ length (now out) < 2 ^ 62 ⌝ }
-    ensures { λ r. ⌜ Draws (props (broughtOf (now (pool .entry)) lead)) (pen w (now (out .entry))) (pen r (now (out .exit))) ⌝ }
+    ensures { λ r. ⌜ Draws (propsBy (now (before .entry)) (heldOf (now (deck .entry)) (now (pool .entry)) tag) (now (between .entry)) (heldOf (now (deck .entry)) (now (pool .entry)) anchor) (now (after .entry))) (pen w (now (out .entry))) (pen r (now (out .exit))) ⌝ }
 {
-    let w1 = put_prop(w, pool, out, b"", lead.tag, b" ");
-    put_prop(w1, pool, out, b"&", lead.anchor, b" ")
+    let w1 = put_prop(w, deck, pool, out, before, tag, after);
+    put_prop(w1, deck, pool, out, between, anchor, after)
 }
 
-// `emit_anchor_tag`. A head is large: it is handed on only where it has a tag or an anchor.
-pub fn put_props(w: Writer, pool: &[u8], out: &mut [u8], lead: Lead) -> Writer
+// `emit_anchor_tag`
+pub fn put_props(
+    w: Writer,
+    deck: &[u8],
+    pool: &[u8],
+    out: &mut [u8],
+    tag: Held,
+    anchor: Held,
+) -> Writer
     requires { ⌜ length (now out) < 2 ^ 62 ⌝ }
-    ensures { λ r. ⌜ Draws (props (broughtOf (now (pool .entry)) lead)) (pen w (now (out .entry))) (pen r (now (out .exit))) ⌝ }
+    ensures { λ r. ⌜ Draws (propsOf (heldOf (now (deck .entry)) (now (pool .entry)) tag) (heldOf (now (deck .entry)) (now (pool .entry)) anchor)) (pen w (now (out .entry))) (pen r (now (out .exit))) ⌝ }
 {
-    if has_props(lead) {
-        return put_held(w, pool, out, lead);
+    if is_either(tag, anchor) {
+        return put_both(w, deck, pool, out, b"", tag, b"&", anchor, b" ");
     }
     w
 }
 
 // `emit_anchor_tag_compact`
-pub fn put_props_compact(w: Writer, pool: &[u8], out: &mut [u8], lead: Lead) -> Writer
+pub fn put_props_compact(w: Writer, deck: &[u8], pool: &[u8], out: &mut [u8], lead: Lead) -> Writer
     requires { ⌜ length (now out) < 2 ^ 62 ⌝ }
-    ensures { λ r. ⌜ Draws (propsCompact (broughtOf (now (pool .entry)) lead)) (pen w (now (out .entry))) (pen r (now (out .exit))) ⌝ }
+    ensures { λ r. ⌜ Draws (propsCompact (broughtOf (now (deck .entry)) (now (pool .entry)) lead)) (pen w (now (out .entry))) (pen r (now (out .exit))) ⌝ }
 {
-    let w1 = put_prop(w, pool, out, b" ", lead.tag, b"");
-    put_prop(w1, pool, out, b" &", lead.anchor, b"")
+    if has_props(lead) {
+        return put_both(w, deck, pool, out, b" ", lead.tag, b" &", lead.anchor, b"");
+    }
+    w
+}
+
+// A tag or an anchor is there.
+pub fn is_either(tag: Held, anchor: Held) -> bool
+    ensures { λ r. ⌜ r ≡ hasHeld tag || hasHeld anchor ⌝ }
+{
+    if tag.at != 0 {
+        return true;
+    }
+    anchor.at != 0
 }
 
 // A node has a tag or an anchor.
 pub fn has_props(lead: Lead) -> bool
     ensures { λ r. ⌜ r ≡ hasHeld (lead .tag) || hasHeld (lead .anchor) ⌝ }
 {
-    let tag = lead.tag;
-    if tag.present != 0 {
-        return true;
-    }
-    let anchor = lead.anchor;
-    anchor.present != 0
+    is_either(lead.tag, lead.anchor)
 }
 
 // The tag, and a space where an anchor follows.
-fn put_tag_first(w: Writer, pool: &[u8], out: &mut [u8], lead: Lead) -> Writer
+fn put_tag_first(w: Writer, deck: &[u8], pool: &[u8], out: &mut [u8], lead: Lead) -> Writer
     requires { ⌜ length (now out) < 2 ^ 62 ⌝ }
-    ensures { λ r. ⌜ Draws (tagFirst (broughtOf (now (pool .entry)) lead)) (pen w (now (out .entry))) (pen r (now (out .exit))) ⌝ }
+    ensures { λ r. ⌜ Draws (tagFirst (broughtOf (now (deck .entry)) (now (pool .entry)) lead)) (pen w (now (out .entry))) (pen r (now (out .exit))) ⌝ }
 {
     let anchor = lead.anchor;
-    if anchor.present == 0 {
-        return put_prop(w, pool, out, b"", lead.tag, b"");
+    if anchor.at == 0 {
+        return put_prop(w, deck, pool, out, b"", lead.tag, b"");
     }
-    put_prop(w, pool, out, b"", lead.tag, b" ")
+    put_prop(w, deck, pool, out, b"", lead.tag, b" ")
 }
 
 // `emit_anchor_tag_line`
-pub fn put_props_line(w: Writer, pool: &[u8], out: &mut [u8], lead: Lead) -> Writer
+pub fn put_props_line(w: Writer, deck: &[u8], pool: &[u8], out: &mut [u8], lead: Lead) -> Writer
     requires { ⌜ length (now out) < 2 ^ 62 ⌝ }
-    ensures { λ r. ⌜ Draws (propsLine (broughtOf (now (pool .entry)) lead)) (pen w (now (out .entry))) (pen r (now (out .exit))) ⌝ }
+    ensures { λ r. ⌜ Draws (propsLine (broughtOf (now (deck .entry)) (now (pool .entry)) lead)) (pen w (now (out .entry))) (pen r (now (out .exit))) ⌝ }
 {
     if has_props(lead) {
-        let w1 = put_tag_first(w, pool, out, lead);
-        let w2 = put_prop(w1, pool, out, b"&", lead.anchor, b"");
+        let w1 = put_tag_first(w, deck, pool, out, lead);
+        let w2 = put_prop(w1, deck, pool, out, b"&", lead.anchor, b"");
         return w2.byte(out, b'\n');
     }
     w
 }
 
 // The inline comment of the node at `place`, unless it was the last one written.
-pub fn put_remark(w: Writer, pool: &[u8], out: &mut [u8], place: usize, m: Remark) -> Writer
+pub fn put_remark(
+    w: Writer,
+    deck: &[u8],
+    pool: &[u8],
+    out: &mut [u8],
+    place: usize,
+    m: Remark,
+) -> Writer
     requires { ⌜ (length (now out) < 2 ^ 62) × (place < 2 ^ 62) ⌝ }
-    ensures { λ r. ⌜ Draws (comment place (remarkOf (now (pool .entry)) m)) (pen w (now (out .entry))) (pen r (now (out .exit))) ⌝ }
+    ensures { λ r. ⌜ Draws (comment place (remarkOf (now (deck .entry)) (now (pool .entry)) m)) (pen w (now (out .entry))) (pen r (now (out .exit))) ⌝ }
 {
-    if m.present == 0 {
+    if m.at == 0 {
         return w;
     }
-    let trailer = m.trailer;
+    let trailer = deck::trailer_in(deck, m.at);
     w.comment(
         out,
         place,
@@ -347,45 +404,66 @@ pub fn put_remark(w: Writer, pool: &[u8], out: &mut [u8], place: usize, m: Remar
 }
 
 // `emit_directive`
-fn put_directive(w: Writer, pool: &[u8], out: &mut [u8], o: Origin) -> Writer
+fn put_directive(w: Writer, deck: &[u8], pool: &[u8], out: &mut [u8], o: Origin) -> Writer
     requires { ⌜ length (now out) < 2 ^ 62 ⌝ }
-    ensures { λ r. ⌜ Draws (put directive (directiveOf (originOf (now (pool .entry)) o))) (pen w (now (out .entry))) (pen r (now (out .exit))) ⌝ }
+    ensures { λ r. ⌜ Draws (put directive (directiveOf (originOf (now (deck .entry)) (now (pool .entry)) o))) (pen w (now (out .entry))) (pen r (now (out .exit))) ⌝ }
 {
-    if o.present == 0 {
+    if o.at == 0 {
         return w;
     }
-    let include = o.include;
+    let include = deck::include_in(deck, o.at);
     let w1 = w.text(out, deck::words_of(pool, include.tag));
     let w2 = w1.byte(out, b' ');
     w2.text(out, deck::words_of(pool, include.target))
 }
 
 // An include's directive, with its node's inline comment, to the end of the line.
-pub fn put_include_line(w: Writer, pool: &[u8], out: &mut [u8], place: usize, lead: Lead) -> Writer
+pub fn put_include_line(
+    w: Writer,
+    deck: &[u8],
+    pool: &[u8],
+    out: &mut [u8],
+    place: usize,
+    lead: Lead,
+) -> Writer
     requires { ⌜ (length (now out) < 2 ^ 62) × (place < 2 ^ 62) ⌝ }
-    ensures { λ r. ⌜ Draws (directed place (originOf (now (pool .entry)) (lead .origin)) (remarkOf (now (pool .entry)) (lead .remark))) (pen w (now (out .entry))) (pen r (now (out .exit))) ⌝ }
+    ensures { λ r. ⌜ Draws (directed place (originOf (now (deck .entry)) (now (pool .entry)) (lead .origin)) (remarkOf (now (deck .entry)) (now (pool .entry)) (lead .remark))) (pen w (now (out .entry))) (pen r (now (out .exit))) ⌝ }
 {
-    let w1 = put_directive(w, pool, out, lead.origin);
-    let w2 = put_remark(w1, pool, out, place, lead.remark);
+    let w1 = put_directive(w, deck, pool, out, lead.origin);
+    let w2 = put_remark(w1, deck, pool, out, place, lead.remark);
     w2.byte(out, b'\n')
 }
 
 // The properties and the inline comment of what stands below, to the end of the line.
-pub fn put_break(w: Writer, pool: &[u8], out: &mut [u8], place: usize, lead: Lead) -> Writer
+pub fn put_break(
+    w: Writer,
+    deck: &[u8],
+    pool: &[u8],
+    out: &mut [u8],
+    place: usize,
+    lead: Lead,
+) -> Writer
     requires { ⌜ (length (now out) < 2 ^ 62) × (place < 2 ^ 62) ⌝ }
-    ensures { λ r. ⌜ Draws (breaks place (remarkOf (now (pool .entry)) (lead .remark)) (broughtOf (now (pool .entry)) lead)) (pen w (now (out .entry))) (pen r (now (out .exit))) ⌝ }
+    ensures { λ r. ⌜ Draws (breaks place (remarkOf (now (deck .entry)) (now (pool .entry)) (lead .remark)) (broughtOf (now (deck .entry)) (now (pool .entry)) lead)) (pen w (now (out .entry))) (pen r (now (out .exit))) ⌝ }
 {
-    let w1 = put_props_compact(w, pool, out, lead);
-    let w2 = put_remark(w1, pool, out, place, lead.remark);
+    let w1 = put_props_compact(w, deck, pool, out, lead);
+    let w2 = put_remark(w1, deck, pool, out, place, lead.remark);
     w2.byte(out, b'\n')
 }
 
 // The inline comment, and the end of the line.
-pub fn put_close(w: Writer, pool: &[u8], out: &mut [u8], place: usize, lead: Lead) -> Writer
+pub fn put_close(
+    w: Writer,
+    deck: &[u8],
+    pool: &[u8],
+    out: &mut [u8],
+    place: usize,
+    remark: Remark,
+) -> Writer
     requires { ⌜ (length (now out) < 2 ^ 62) × (place < 2 ^ 62) ⌝ }
-    ensures { λ r. ⌜ Draws (closes place (remarkOf (now (pool .entry)) (lead .remark))) (pen w (now (out .entry))) (pen r (now (out .exit))) ⌝ }
+    ensures { λ r. ⌜ Draws (closes place (remarkOf (now (deck .entry)) (now (pool .entry)) remark)) (pen w (now (out .entry))) (pen r (now (out .exit))) ⌝ }
 {
-    let w1 = put_remark(w, pool, out, place, lead.remark);
+    let w1 = put_remark(w, deck, pool, out, place, remark);
     w1.end_line(out)
 }
 
@@ -421,7 +499,7 @@ pub fn put_before_key(
 {
     let lines = lead.lines;
     let w1 = w.again(out, b'\n', lines.blank);
-    let w2 = put_repeated(w1, deck, pool, out, lead, Entries::Heads, i);
+    let w2 = put_heads(w1, deck, pool, out, lead, i);
     w2.spaces(out, i)
 }
 
@@ -436,9 +514,9 @@ pub fn put_below(
     i: usize,
 ) -> Writer
     requires { ⌜ (length (now out) < 2 ^ 62) × (place < 2 ^ 62) × Short lead ⌝ }
-    ensures { λ r. ⌜ Draws (belowOpen place (keptOf (now (deck .entry)) (now (pool .entry)) lead) (broughtOf (now (pool .entry)) lead) i) (pen w (now (out .entry))) (pen r (now (out .exit))) ⌝ }
+    ensures { λ r. ⌜ Draws (belowOpen place (keptOf (now (deck .entry)) (now (pool .entry)) lead) (broughtOf (now (deck .entry)) (now (pool .entry)) lead) i) (pen w (now (out .entry))) (pen r (now (out .exit))) ⌝ }
 {
-    let w1 = put_break(w, pool, out, place, lead);
+    let w1 = put_break(w, deck, pool, out, place, lead);
     let w2 = put_repeated(w1, deck, pool, out, lead, Entries::Under, i);
     w2.spaces(out, i)
 }
@@ -454,9 +532,9 @@ pub fn put_colon_block(
     i: usize,
 ) -> Writer
     requires { ⌜ (length (now out) < 2 ^ 62) × (place < 2 ^ 62) × Short lead ⌝ }
-    ensures { λ r. ⌜ Draws (colonOpen place (keptOf (now (deck .entry)) (now (pool .entry)) lead) (broughtOf (now (pool .entry)) lead) i) (pen w (now (out .entry))) (pen r (now (out .exit))) ⌝ }
+    ensures { λ r. ⌜ Draws (colonOpen place (keptOf (now (deck .entry)) (now (pool .entry)) lead) (broughtOf (now (deck .entry)) (now (pool .entry)) lead) i) (pen w (now (out .entry))) (pen r (now (out .exit))) ⌝ }
 {
-    let w1 = put_break(w, pool, out, place, lead);
+    let w1 = put_break(w, deck, pool, out, place, lead);
     put_repeated(w1, deck, pool, out, lead, Entries::Heads, i)
 }
 
@@ -471,8 +549,8 @@ pub fn put_dash_block(
     i: usize,
 ) -> Writer
     requires { ⌜ (length (now out) < 2 ^ 62) × (place < 2 ^ 62) × Short lead ⌝ }
-    ensures { λ r. ⌜ Draws (dashOpen place (keptOf (now (deck .entry)) (now (pool .entry)) lead) (broughtOf (now (pool .entry)) lead) i) (pen w (now (out .entry))) (pen r (now (out .exit))) ⌝ }
+    ensures { λ r. ⌜ Draws (dashOpen place (keptOf (now (deck .entry)) (now (pool .entry)) lead) (broughtOf (now (deck .entry)) (now (pool .entry)) lead) i) (pen w (now (out .entry))) (pen r (now (out .exit))) ⌝ }
 {
-    let w1 = put_break(w, pool, out, place, lead);
+    let w1 = put_break(w, deck, pool, out, place, lead);
     put_below_dash(w1, deck, pool, out, lead, i)
 }

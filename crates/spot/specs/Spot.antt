@@ -9,8 +9,7 @@ use Rattle.definition.specs.Deck.{words}
 use Rattle.definition.specs.declared.Cursor.{Cursor}
 use Rattle.definition.specs.declared.Record.{Record}
 use Rattle.definition.specs.declared.Record.the-variants as is
-use Rattle.node.specs.declared.Head.{Head}
-use Rattle.node.specs.Head.{headAt}
+use Rattle.node.specs.Head.{Head, headAt}
 use Rattle.node.specs.Total.{Got, keptOf, broughtOf, itemsFrom, pairsFrom, shape, shapeOf, treeAt}
 use Rattle.node.specs.Fuel.{tree-is}
 use Rattle.spot.specs.declared.Body.{Body}
@@ -60,7 +59,7 @@ module _ (deck pool : Bytes) where
   keptIn x = keptOf deck pool (x .lead)
 
   abbrev pub broughtIn : Spot → Brought
-  broughtIn x = broughtOf pool (x .lead)
+  broughtIn x = broughtOf deck pool (x .lead)
 
   abbrev pub kindIn : Spot → Kind
   kindIn x = kindOf (x .body) (x .next)
@@ -91,7 +90,7 @@ module _ (deck pool : Bytes) where
   -- the tree at a cursor is the node there
   pub tree-spot : (c : Cursor) → c .at ≤ length deck → treeAt deck pool c ≡ record { value = nodeIn (spotAt deck c); next = endIn (spotAt deck c) }
   unfolding shapeOf spotAt spotOf nodeIn
-  tree-spot c k = let h = headAt deck c in tree-is deck pool c k ∙ shape-is (h .place .at) (keptOf deck pool (h .lead)) (broughtOf pool (h .lead)) (h .own) (h .next)
+  tree-spot c k = let h = headAt deck c in tree-is deck pool c k ∙ shape-is (h .place .at) (keptOf deck pool (h .lead)) (broughtOf deck pool (h .lead)) (h .own) (h .next)
 
   pub tree-value : (c : Cursor) → c .at ≤ length deck → treeAt deck pool c .value ≡ nodeIn (spotAt deck c)
   tree-value c k = ap (λ (g : Got Node). g .value) (tree-spot c k)

@@ -1,13 +1,13 @@
 // A node as the emitter takes it: what its leading records say, what it is, its place, and where its children begin.
 use definition::Cursor;
 use definition::Group;
-use definition::Record;
 use definition::Text;
 use definition::Words;
 use node::Lead;
 ghost use mathlib.Core.Path.{_≡_};
 ghost use Prim.Native.Nat.{_≤_};
 ghost use lib.ListN.{length};
+ghost use Rattle.definition.specs.Records.{recordAt};
 ghost use Rattle.spot.specs.Spot.{bodyOf, spotAt};
 
 pub enum Body {
@@ -25,24 +25,18 @@ pub struct Spot {
     pub next: Cursor,
 }
 
-fn body_of(own: Record) -> Body
-    ensures { λ r. ⌜ r ≡ bodyOf own ⌝ }
+// The record at a cursor, as a node's own.
+fn body_at(deck: &[u8], c: Cursor) -> Body
+    requires { ⌜ c .at ≤ length (now deck) ⌝ }
+    ensures { λ r. ⌜ r ≡ bodyOf (recordAt (now (deck .entry)) c) ⌝ }
 {
-    match own {
-        Record::Tag(_) => Body::Null,
-        Record::Anchor(_) => Body::Null,
-        Record::Source(_) => Body::Null,
-        Record::Head(_) => Body::Null,
-        Record::Inline(_) => Body::Null,
-        Record::Foot(_) => Body::Null,
-        Record::Raw(_) => Body::Null,
-        Record::Directive(_) => Body::Null,
-        Record::Layout(_) => Body::Null,
-        Record::Null => Body::Null,
-        Record::Scalar(words) => Body::Scalar(words),
-        Record::Alias(t) => Body::Alias(t),
-        Record::Sequence(g) => Body::Sequence(g),
-        Record::Mapping(g) => Body::Mapping(g),
+    let inside = Cursor { at: c.at + 1 };
+    match deck::kind(deck, c) {
+        0x21 => Body::Scalar(deck::words_at(deck, inside)),
+        0x22 => Body::Alias(deck::text_only(deck, inside)),
+        0x23 => Body::Sequence(deck::group_at(deck, inside)),
+        0x24 => Body::Mapping(deck::group_at(deck, inside)),
+        _ => Body::Null,
     }
 }
 
@@ -51,16 +45,15 @@ pub fn spot_at(deck: &[u8], c: Cursor) -> Spot
     requires { ⌜ (c .at ≤ length (now deck)) × (length (now deck) ≤ 65536) ⌝ }
     ensures { λ r. ⌜ r ≡ spotAt (now (deck .entry)) c ⌝ }
 {
-    let head = node::head_at(deck, c);
-    let lead = head.lead;
-    let own = head.own;
-    let here = head.place;
-    let next = head.next;
-    let body = body_of(own);
+    let front = node::front_at(deck, c);
+    let lead = front.lead;
+    let own = front.own;
+    let body = body_at(deck, own);
+    let next = deck::next(deck, own);
     Spot {
         lead,
         body,
-        place: here.at,
+        place: own.at,
         next,
     }
 }

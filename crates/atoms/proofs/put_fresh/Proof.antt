@@ -34,11 +34,11 @@ same-length c = search needs
 -- src/lib.rt:148:9
 returns : tie.Need-returns
 unfolding on
-returns c = with-comment _ _ _ _ _ _ _ _ _ (c .before .before .before .before .before .before .is-on-header .ensures) (c .before .before .before .before .before .if1 .taken) (c .before .before .before .before .before .before .before .words-of .ensures) (c .before .before .before .marker-of .ensures) (c .before .before .put-commented .ensures)
+returns c = with-comment _ _ _ _ _ _ _ _ _ _ (c .before .before .before .before .before .before .is-on-header .ensures) (c .before .before .before .before .before .if1 .taken) (c .before .before .before .before .before .before .before .words-of .ensures) (c .before .before .before .marker-of .ensures) (c .before .before .put-commented .ensures)
 
 -- src/lib.rt:150:5
 put-scalar-requires : tie.Need-put-scalar-requires
-put-scalar-requires c κs = (words-short _ _ (c .before .before .before .words-of .ensures) (c .before .before .before .before .before .before .before .before .pre .1), c .before .before .before .before .before .before .before .before .pre .3, c .before .before .before .before .before .before .before .before .pre .0)
+put-scalar-requires c κs = (words-short _ _ (c .before .before .before .words-of .ensures) (c .before .before .before .before .before .before .before .before .before .pre .1), c .before .before .before .before .before .before .before .before .before .pre .3, c .before .before .before .before .before .before .before .before .before .pre .0)
 
 -- src/lib.rt:128:1
 same-length-2 : tie.Need-same-length-2
@@ -47,7 +47,7 @@ same-length-2 c = search needs
 -- src/lib.rt:128:1
 returns-2 : tie.Need-returns-2
 unfolding on
-returns-2 c = without-comment _ _ _ _ _ _ _ _ _ _ (c .before .before .before .before .before .is-on-header .ensures) (c .before .before .before .before .if1 .left) (c .before .before .before .before .before .before .words-of .ensures) (c .before .before .put-scalar .ensures)
+returns-2 c = without-comment _ _ _ _ _ _ _ _ _ _ _ (c .before .before .before .before .before .is-on-header .ensures) (c .before .before .before .before .if1 .left) (c .before .before .before .before .before .before .words-of .ensures) (c .before .before .put-scalar .ensures)
 
 pub put-fresh-spec : {M : Type 1} → statement M
 put-fresh-spec =

@@ -18,7 +18,7 @@ same-length c = search needs
 
 -- src/lib.rt:173:9
 returns : tie.Need-returns
-returns c = no-raw _ _ _ _ _ _ _ (c .before .before .before .before .if1 .taken) (c .before .before .put-fresh .ensures)
+returns c = no-raw _ _ _ _ _ _ _ _ (c .before .before .before .before .if1 .taken) (c .before .before .put-fresh .ensures)
 
 -- src/lib.rt:176:9
 put-fresh-requires-2 : tie.Need-put-fresh-requires-2
@@ -30,9 +30,12 @@ same-length-2 c = search needs
 
 -- src/lib.rt:176:9
 returns-2 : tie.Need-returns-2
-returns-2 c = aside _ _ _ _ _ _ _ (c .before .before .before .before .before .if1 .left) (c .before .before .before .before .if2 .taken) (c .before .before .put-fresh2 .ensures)
+returns-2 c = aside _ _ _ _ _ _ _ _ (c .before .before .before .before .before .if1 .left) (c .before .before .before .before .if2 .taken) (c .before .before .put-fresh2 .ensures)
 
 -- src/lib.rt:178:19
+text-in-requires : tie.Need-text-in-requires
+text-in-requires c κs = search needs
+
 words-of-requires : tie.Need-words-of-requires
 words-of-requires c κs = search needs
 
@@ -46,7 +49,7 @@ same-length-3 c = search needs
 
 -- src/lib.rt:154:1
 returns-3 : tie.Need-returns-3
-returns-3 c = again _ _ _ _ _ _ _ (c .before .before .before .before .before .before .if1 .left) (c .before .before .before .before .before .if2 .left) (c .before .before .before .words-of .ensures) (c .before .before .replay .ensures)
+returns-3 c = again _ _ _ _ _ _ _ _ (c .before .before .before .before .before .before .before .if1 .left) (c .before .before .before .before .before .before .if2 .left) (c .before .before .before .before .text-in .ensures) (c .before .before .before .words-of .ensures) (c .before .before .replay .ensures)
 
 pub put-words-spec : {M : Type 1} → statement M
 put-words-spec =
@@ -58,6 +61,7 @@ put-words-spec =
     put-fresh-requires-2
     same-length-2
     returns-2
+    text-in-requires
     words-of-requires
     replay-requires
     same-length-3

@@ -3,12 +3,12 @@ use Rattle.choices.proofs.is_stepped.Statement.{statement}
 use Rattle.choices.proofs.is_stepped.Tie as tie
 use Rattle.choices.proofs.is_stepped.Reads as reads
 use Rattle.choices.proofs.is_stepped.Lts as lts
-use Rattle.choices.proofs.is_held_either.Reads as is-held-either-reads
+use Rattle.parts.proofs.is_either.Reads as is-either-reads
 use Rattle.choices.proofs.is_sequence.Reads as is-sequence-reads
 
 -- src/lib.rt:291:8
-is-held-either-requires : tie.Need-is-held-either-requires
-is-held-either-requires c κs = search needs
+is-either-requires : tie.Need-is-either-requires
+is-either-requires c κs = search needs
 
 -- src/lib.rt:292:17
 is-sequence-requires : tie.Need-is-sequence-requires
@@ -16,12 +16,12 @@ is-sequence-requires c κs = search needs
 
 -- src/lib.rt:292:9
 returns : tie.Need-returns
-returns c = rw (← c .before .before .is-held-either .ensures, c .before .if1 .taken, ← c .is-sequence .ensures)
+returns c = rw (← c .before .before .is-either .ensures, c .before .if1 .taken, ← c .is-sequence .ensures)
 
 -- src/lib.rt:288:1
 returns-2 : tie.Need-returns-2
-returns-2 c = rw (← c .before .is-held-either .ensures, c .if1 .left)
+returns-2 c = rw (← c .before .is-either .ensures, c .if1 .left)
 
 pub is-stepped-spec : {M : Type 1} → statement M
 is-stepped-spec =
-    tie.close (tie.spec is-held-either-requires is-sequence-requires returns returns-2)
+    tie.close (tie.spec is-either-requires is-sequence-requires returns returns-2)

@@ -4,19 +4,19 @@ use Rattle.choices.proofs.on_dash_line.Statement.{statement}
 use Rattle.choices.proofs.on_dash_line.Tie as tie
 use Rattle.choices.proofs.on_dash_line.Reads as reads
 use Rattle.choices.proofs.on_dash_line.Lts as lts
-use Rattle.choices.proofs.is_held_either.Reads as is-held-either-reads
+use Rattle.parts.proofs.is_either.Reads as is-either-reads
 use Rattle.choices.proofs.is_sequence.Reads as is-sequence-reads
 use Rattle.choices.proofs.is_unbroken.Reads as is-unbroken-reads
 use Rattle.parts.proofs.is_marked.Reads as is-marked-reads
 
 -- src/lib.rt:322:8
-is-held-either-requires : tie.Need-is-held-either-requires
-is-held-either-requires c κs = search needs
+is-either-requires : tie.Need-is-either-requires
+is-either-requires c κs = search needs
 
 -- src/lib.rt:323:9
 returns : tie.Need-returns
 unfolding onDashLineIn
-returns c = rw (← c .before .is-held-either .ensures, c .if1 .taken)
+returns c = rw (← c .before .is-either .ensures, c .if1 .taken)
 
 -- src/lib.rt:325:8
 is-sequence-requires : tie.Need-is-sequence-requires
@@ -29,7 +29,7 @@ is-marked-requires c κs = search needs
 -- src/lib.rt:326:9
 returns-2 : tie.Need-returns-2
 unfolding onDashLineIn
-returns-2 c = rw (← c .before .before .before .before .is-held-either .ensures, c .before .before .before .if1 .left, ← c .before .before .is-sequence .ensures, c .before .if2 .taken) (c .is-marked .ensures)
+returns-2 c = rw (← c .before .before .before .before .is-either .ensures, c .before .before .before .if1 .left, ← c .before .before .is-sequence .ensures, c .before .if2 .taken) (c .is-marked .ensures)
 
 -- src/lib.rt:328:5
 is-unbroken-requires : tie.Need-is-unbroken-requires
@@ -38,13 +38,13 @@ is-unbroken-requires c κs = search needs
 -- src/lib.rt:319:1
 returns-3 : tie.Need-returns-3
 unfolding onDashLineIn
-returns-3 c = rw (← c .before .before .before .before .is-held-either .ensures, c .before .before .before .if1 .left, ← c .before .before .is-sequence .ensures, c .before .if2 .left) (c .is-unbroken .ensures)
+returns-3 c = rw (← c .before .before .before .before .is-either .ensures, c .before .before .before .if1 .left, ← c .before .before .is-sequence .ensures, c .before .if2 .left) (c .is-unbroken .ensures)
 
 pub on-dash-line-spec : {M : Type 1} → statement M
 on-dash-line-spec =
     tie.close
     (tie.spec
-    is-held-either-requires
+    is-either-requires
     returns
     is-sequence-requires
     is-marked-requires

@@ -1,3 +1,4 @@
+use Rattle.parts.specs.Runs.{of-props}
 use Rattle.layout.specs.Calm.{calm-drawn, calm-after, in-line}
 use native.Mathlib.Omega.{arith}
 use Rattle.document.proofs.Laws.{line-whole}
@@ -33,7 +34,7 @@ same-length c = search needs
 
 -- src/lib.rt:142:1
 returns : tie.Need-returns
-returns c = line-whole _ _ _ _ _ _ ((c .before .before .before .before .before .before .before .before .before .before .before .before .before .before .before .before .before .pre) .0 .flow) ((c .before .before .before .before .before .before .before .before .before .before .before .before .before .before .before .before .before .pre) .0 .key) (c .before .before .before .before .before .before .before .before .before .step-of .ensures .0) (c .before .before .before .before .before .before .before .before .before .before .before .before .put-props .ensures) (c .before .before .before .before .before .before .before .content .ensures) (c .before .before .put-close .ensures)
+returns c = line-whole _ _ _ _ _ _ ((c .before .before .before .before .before .before .before .before .before .before .before .before .before .before .before .before .before .pre) .0 .flow) ((c .before .before .before .before .before .before .before .before .before .before .before .before .before .before .before .before .before .pre) .0 .key) (c .before .before .before .before .before .before .before .before .before .step-of .ensures .0) (of-props _ _ (c .before .before .before .before .before .before .before .before .before .before .before .before .before .before .before .before .before .args .x .lead) (c .before .before .before .before .before .before .before .before .before .before .before .before .put-props .ensures)) (c .before .before .before .before .before .before .before .content .ensures) (c .before .before .put-close .ensures)
 
 pub put-inlined-spec : {M : Type 1} → statement M
 put-inlined-spec =

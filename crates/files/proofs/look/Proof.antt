@@ -2,7 +2,8 @@
 use Rattle.files.proofs.Laws.{looked}
 use Rattle.files.specs.Files.{foundOf}
 use Rattle.files.specs.Scan.{stepAt}
-use Rattle.node.specs.declared.Head.{Head}
+use Rattle.spot.specs.declared.Spot.{Spot}
+use Rattle.spot.specs.Spot.{spotOf, spotAt}
 use Rattle.definition.specs.declared.File.the-variants as file
 use mathlib.Core.Path.{ap}
 use borrow.Author.Needs.{needs}
@@ -11,10 +12,10 @@ use Rattle.files.proofs.look.Tie as tie
 use Rattle.files.proofs.look.Reads as reads
 use Rattle.files.proofs.look.Lts as lts
 use Rattle.modified.proofs.file_at.Reads as file-at-reads
-use Rattle.node.proofs.head_at.Reads as head-at-reads
+use Rattle.spot.proofs.spot_at.Reads as spot-at-reads
 
-head-at-requires : tie.Need-head-at-requires
-head-at-requires c κs = search needs
+spot-at-requires : tie.Need-spot-at-requires
+spot-at-requires c κs = search needs
 
 file-at-requires : tie.Need-file-at-requires
 file-at-requires c κs = search needs
@@ -26,14 +27,14 @@ enum-known-file : tie.Need-enum-known-file
 enum-known-file c = search needs
 
 returns : tie.Need-returns
-unfolding foundOf stepAt
-returns c = looked (c .before .before .before .before .before .before .args .deck .now) (c .before .before .before .before .before .before .args .c) _ _ (file.Absent) (ap (λ (h : Head). h .next) (c .before .before .before .before .head-at .ensures)) (c .before .before .file-at .ensures) (c .enum-told .given .1)
+unfolding foundOf stepAt spotOf spotAt
+returns c = looked (c .before .before .before .before .before .before .args .deck .now) (c .before .before .before .before .before .before .args .c) _ _ (file.Absent) (ap (λ (x : Spot). x .next) (c .before .before .before .before .spot-at .ensures)) (c .before .before .file-at .ensures) (c .enum-told .given .1)
 
 returns-2 : tie.Need-returns-2
-unfolding foundOf stepAt
-returns-2 c = looked (c .before .before .before .before .before .before .before .args .deck .now) (c .before .before .before .before .before .before .before .args .c) _ _ _ (ap (λ (h : Head). h .next) (c .before .before .before .before .before .head-at .ensures)) (c .before .before .before .file-at .ensures) (c .before .file .given .1)
+unfolding foundOf stepAt spotOf spotAt
+returns-2 c = looked (c .before .before .before .before .before .before .before .args .deck .now) (c .before .before .before .before .before .before .before .args .c) _ _ _ (ap (λ (x : Spot). x .next) (c .before .before .before .before .before .spot-at .ensures)) (c .before .before .before .file-at .ensures) (c .before .file .given .1)
 
 pub look-spec : {M : Type 1} → statement M
 look-spec =
     tie.close
-    (tie.spec head-at-requires file-at-requires enum-told enum-known-file returns returns-2)
+    (tie.spec spot-at-requires file-at-requires enum-told enum-known-file returns returns-2)

@@ -1,3 +1,4 @@
+use Rattle.parts.specs.Runs.{of-props}
 use Rattle.flow.specs.Ready.{after-drawn}
 use Rattle.layout.proofs.Laws.{inlined-whole}
 use borrow.Author.Needs.{needs}
@@ -27,7 +28,7 @@ same-length c = search needs
 
 -- src/lib.rt:48:1
 returns : tie.Need-returns
-returns c = let p = (c .before .before .before .before .before .before .before .before .before .before .before .before .before .before .before .before .pre) in inlined-whole _ _ _ _ _ _ _ _ _ _ (p .3) (p .4) (c .before .before .before .before .before .before .before .before .before .before .before .put-props .ensures) (c .before .before .before .before .before .before .before .content .ensures) (c .before .before .put-close .ensures)
+returns c = let p = (c .before .before .before .before .before .before .before .before .before .before .before .before .before .before .before .before .pre) in inlined-whole _ _ _ _ _ _ _ _ _ _ (p .3) (p .4) (of-props _ _ (c .before .before .before .before .before .before .before .before .before .before .before .before .before .before .before .before .args .x .lead) (c .before .before .before .before .before .before .before .before .before .before .before .put-props .ensures)) (c .before .before .before .before .before .before .before .content .ensures) (c .before .before .put-close .ensures)
 
 pub put-inlined-spec : {M : Type 1} → statement M
 put-inlined-spec =

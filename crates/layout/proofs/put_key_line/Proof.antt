@@ -1,3 +1,4 @@
+use Rattle.parts.specs.Runs.{of-props}
 use Rattle.layout.proofs.Laws.{key-line-whole, after-key, kept-length}
 use Rattle.definition.specs.Pen.{mark, sign}
 use Rattle.flow.specs.Ready.{after, after-drawn}
@@ -40,11 +41,11 @@ end-line-requires c κs = let p = (c .before .before .before .before .before .be
 
 -- src/lib.rt:117:1
 same-length : tie.Need-same-length
-same-length c = let p = (c .before .before .before .before .before .before .before .before .before .before .before .before .before .before .before .before .before .before .before .before .before .before .pre) in kept-length (c .before .before .before .before .before .before .before .before .before .before .before .before .before .before .before .before .before .before .before .before .before .before .args .settings) (key-line-whole _ _ _ _ _ _ _ _ _ _ _ _ _ _ _ _ (p .3) (p .4) (c .before .before .before .before .before .before .before .before .before .before .before .before .before .before .before .before .before .byte .ensures) (c .before .before .before .before .before .before .before .before .before .before .before .before .before .put-props .ensures) (c .before .before .before .before .before .before .before .before .before .before .with-key .ensures) (c .before .before .before .before .before .before .before .before .content .ensures) (c .before .before .before .before .with-key2 .ensures) (c .before .before .end-line .ensures))
+same-length c = let p = (c .before .before .before .before .before .before .before .before .before .before .before .before .before .before .before .before .before .before .before .before .before .before .pre) in kept-length (c .before .before .before .before .before .before .before .before .before .before .before .before .before .before .before .before .before .before .before .before .before .before .args .settings) (key-line-whole _ _ _ _ _ _ _ _ _ _ _ _ _ _ _ _ (p .3) (p .4) (c .before .before .before .before .before .before .before .before .before .before .before .before .before .before .before .before .before .byte .ensures) (of-props _ _ (c .before .before .before .before .before .before .before .before .before .before .before .before .before .before .before .before .before .before .before .before .before .before .args .x .lead) (c .before .before .before .before .before .before .before .before .before .before .before .before .before .put-props .ensures)) (c .before .before .before .before .before .before .before .before .before .before .with-key .ensures) (c .before .before .before .before .before .before .before .before .content .ensures) (c .before .before .before .before .with-key2 .ensures) (c .before .before .end-line .ensures))
 
 -- src/lib.rt:117:1
 returns : tie.Need-returns
-returns c = let p = (c .before .before .before .before .before .before .before .before .before .before .before .before .before .before .before .before .before .before .before .before .before .before .pre) in key-line-whole _ _ _ _ _ _ _ _ _ _ _ _ _ _ _ _ (p .3) (p .4) (c .before .before .before .before .before .before .before .before .before .before .before .before .before .before .before .before .before .byte .ensures) (c .before .before .before .before .before .before .before .before .before .before .before .before .before .put-props .ensures) (c .before .before .before .before .before .before .before .before .before .before .with-key .ensures) (c .before .before .before .before .before .before .before .before .content .ensures) (c .before .before .before .before .with-key2 .ensures) (c .before .before .end-line .ensures)
+returns c = let p = (c .before .before .before .before .before .before .before .before .before .before .before .before .before .before .before .before .before .before .before .before .before .before .pre) in key-line-whole _ _ _ _ _ _ _ _ _ _ _ _ _ _ _ _ (p .3) (p .4) (c .before .before .before .before .before .before .before .before .before .before .before .before .before .before .before .before .before .byte .ensures) (of-props _ _ (c .before .before .before .before .before .before .before .before .before .before .before .before .before .before .before .before .before .before .before .before .before .before .args .x .lead) (c .before .before .before .before .before .before .before .before .before .before .before .before .before .put-props .ensures)) (c .before .before .before .before .before .before .before .before .before .before .with-key .ensures) (c .before .before .before .before .before .before .before .before .content .ensures) (c .before .before .before .before .with-key2 .ensures) (c .before .before .end-line .ensures)
 
 pub put-key-line-spec : {M : Type 1} → statement M
 put-key-line-spec =

@@ -1,161 +1,94 @@
 -- `node::with_record` meets its contract.
-use Rattle.node.specs.Head.{addTo}
+use mathlib.Core.Path.{_∙_, ap}
 use borrow.Author.Needs.{needs}
+use Rattle.definition.specs.declared.Lines.{Lines}
+use Rattle.node.specs.Head.{withLines}
+use Rattle.node.proofs.Laws.{add-tag, add-anchor, add-origin, add-heads, add-remark, add-foots, add-raw, add-directives, add-lines, add-none}
 use Rattle.node.proofs.with_record.Statement.{statement}
 use Rattle.node.proofs.with_record.Tie as tie
 
-enum-known-r : tie.Need-enum-known-r
-enum-known-r c = search needs
+kind-requires : tie.Need-kind-requires
+kind-requires c κs = search needs
 
 with-tag-requires : tie.Need-with-tag-requires
-with-tag-requires c κs = tt
-
-enum-known-r-2 : tie.Need-enum-known-r-2
-enum-known-r-2 c = search needs
+with-tag-requires c κs = search needs
 
 with-anchor-requires : tie.Need-with-anchor-requires
-with-anchor-requires c κs = tt
-
-enum-known-r-3 : tie.Need-enum-known-r-3
-enum-known-r-3 c = search needs
+with-anchor-requires c κs = search needs
 
 with-origin-requires : tie.Need-with-origin-requires
-with-origin-requires c κs = tt
-
-enum-told : tie.Need-enum-told
-enum-told c = search needs
+with-origin-requires c κs = search needs
 
 more-heads-requires : tie.Need-more-heads-requires
 more-heads-requires c κs = search needs
 
-enum-known-r-4 : tie.Need-enum-known-r-4
-enum-known-r-4 c = search needs
-
 with-remark-requires : tie.Need-with-remark-requires
-with-remark-requires c κs = tt
-
-enum-told-2 : tie.Need-enum-told-2
-enum-told-2 c = search needs
+with-remark-requires c κs = search needs
 
 more-foots-requires : tie.Need-more-foots-requires
 more-foots-requires c κs = search needs
 
-enum-known-r-5 : tie.Need-enum-known-r-5
-enum-known-r-5 c = search needs
-
 with-raw-requires : tie.Need-with-raw-requires
-with-raw-requires c κs = tt
-
-enum-told-3 : tie.Need-enum-told-3
-enum-told-3 c = search needs
+with-raw-requires c κs = search needs
 
 more-directives-requires : tie.Need-more-directives-requires
 more-directives-requires c κs = search needs
 
-enum-known-r-6 : tie.Need-enum-known-r-6
-enum-known-r-6 c = search needs
+add-t7 : tie.Need-add-t7
+add-t7 c = search needs
+
+lines-at-requires : tie.Need-lines-at-requires
+lines-at-requires c κs = search needs
 
 with-lines-requires : tie.Need-with-lines-requires
-with-lines-requires c κs = tt
-
-enum-told-4 : tie.Need-enum-told-4
-enum-told-4 c = search needs
-
-enum-told-5 : tie.Need-enum-told-5
-enum-told-5 c = search needs
-
-enum-told-6 : tie.Need-enum-told-6
-enum-told-6 c = search needs
-
-enum-told-7 : tie.Need-enum-told-7
-enum-told-7 c = search needs
-
-enum-told-8 : tie.Need-enum-told-8
-enum-told-8 c = search needs
+with-lines-requires c κs = search needs
 
 returns : tie.Need-returns
-unfolding addTo
-returns c = rw (c .with-tag .ensures, c .before .before .r .given .1)
+returns c = c .with-tag .ensures ∙ add-tag (c .before .before .before .before .args .deck .now) (c .before .before .before .before .args .c) (c .before .before .before .before .args .l) _ (c .before .before .kind .ensures .0) (c .before .match .keys1)
 
 returns-2 : tie.Need-returns-2
-unfolding addTo
-returns-2 c = rw (c .with-anchor .ensures, c .before .before .r2 .given .1)
+returns-2 c = c .with-anchor .ensures ∙ add-anchor (c .before .before .before .before .args .deck .now) (c .before .before .before .before .args .c) (c .before .before .before .before .args .l) _ (c .before .before .kind .ensures .0) (c .before .match .keys2)
 
 returns-3 : tie.Need-returns-3
-unfolding addTo
-returns-3 c = rw (c .with-origin .ensures, c .before .before .r3 .given .1)
+returns-3 c = c .with-origin .ensures ∙ add-origin (c .before .before .before .before .args .deck .now) (c .before .before .before .before .args .c) (c .before .before .before .before .args .l) _ (c .before .before .kind .ensures .0) (c .before .match .keys3)
 
 returns-4 : tie.Need-returns-4
-unfolding addTo
-returns-4 c = rw (c .more-heads .ensures, c .before .enum-told .given .1)
+returns-4 c = c .more-heads .ensures ∙ add-heads (c .before .before .before .before .args .deck .now) (c .before .before .before .before .args .c) (c .before .before .before .before .args .l) _ (c .before .before .kind .ensures .0) (c .before .match .keys4)
 
 returns-5 : tie.Need-returns-5
-unfolding addTo
-returns-5 c = rw (c .with-remark .ensures, c .before .before .r4 .given .1)
+returns-5 c = c .with-remark .ensures ∙ add-remark (c .before .before .before .before .args .deck .now) (c .before .before .before .before .args .c) (c .before .before .before .before .args .l) _ (c .before .before .kind .ensures .0) (c .before .match .keys5)
 
 returns-6 : tie.Need-returns-6
-unfolding addTo
-returns-6 c = rw (c .more-foots .ensures, c .before .enum-told2 .given .1)
+returns-6 c = c .more-foots .ensures ∙ add-foots (c .before .before .before .before .args .deck .now) (c .before .before .before .before .args .c) (c .before .before .before .before .args .l) _ (c .before .before .kind .ensures .0) (c .before .match .keys6)
 
 returns-7 : tie.Need-returns-7
-unfolding addTo
-returns-7 c = rw (c .with-raw .ensures, c .before .before .r5 .given .1)
+returns-7 c = c .with-raw .ensures ∙ add-raw (c .before .before .before .before .args .deck .now) (c .before .before .before .before .args .c) (c .before .before .before .before .args .l) _ (c .before .before .kind .ensures .0) (c .before .match .keys7)
 
 returns-8 : tie.Need-returns-8
-unfolding addTo
-returns-8 c = rw (c .more-directives .ensures, c .before .enum-told3 .given .1)
+returns-8 c = c .more-directives .ensures ∙ add-directives (c .before .before .before .before .args .deck .now) (c .before .before .before .before .args .c) (c .before .before .before .before .args .l) _ (c .before .before .kind .ensures .0) (c .before .match .keys8)
 
 returns-9 : tie.Need-returns-9
-unfolding addTo
-returns-9 c = rw (c .with-lines .ensures, c .before .before .r6 .given .1)
+returns-9 c = c .with-lines .ensures ∙ ap (λ (x : Lines). withLines x (c .before .before .before .before .before .before .args .l)) (c .before .lines-at .ensures) ∙ add-lines (c .before .before .before .before .before .before .args .deck .now) (c .before .before .before .before .before .before .args .c) (c .before .before .before .before .before .before .args .l) _ (c .before .before .before .before .kind .ensures .0) (c .before .before .before .match .keys9)
 
 returns-10 : tie.Need-returns-10
-unfolding addTo
-returns-10 c = rw (c .enum-told4 .given .1)
-
-returns-11 : tie.Need-returns-11
-unfolding addTo
-returns-11 c = rw (c .enum-told5 .given .1)
-
-returns-12 : tie.Need-returns-12
-unfolding addTo
-returns-12 c = rw (c .enum-told6 .given .1)
-
-returns-13 : tie.Need-returns-13
-unfolding addTo
-returns-13 c = rw (c .enum-told7 .given .1)
-
-returns-14 : tie.Need-returns-14
-unfolding addTo
-returns-14 c = rw (c .enum-told8 .given .1)
+returns-10 c = let r = c .match .rest in add-none (c .before .before .before .args .deck .now) (c .before .before .before .args .c) (c .before .before .before .args .l) _ (c .before .kind .ensures .0) (r .0 .0 .0 .0 .0 .0 .0 .0 .1) (r .0 .0 .0 .0 .0 .0 .0 .1) (r .0 .0 .0 .0 .0 .0 .1) (r .0 .0 .0 .0 .0 .1) (r .0 .0 .0 .0 .1) (r .0 .0 .0 .1) (r .0 .0 .1) (r .0 .1) (r .1)
 
 pub with-record-spec : {M : Type 1} → statement M
 with-record-spec =
     tie.close
     (tie.spec
-    enum-known-r
+    kind-requires
     with-tag-requires
-    enum-known-r-2
     with-anchor-requires
-    enum-known-r-3
     with-origin-requires
-    enum-told
     more-heads-requires
-    enum-known-r-4
     with-remark-requires
-    enum-told-2
     more-foots-requires
-    enum-known-r-5
     with-raw-requires
-    enum-told-3
     more-directives-requires
-    enum-known-r-6
+    add-t7
+    lines-at-requires
     with-lines-requires
-    enum-told-4
-    enum-told-5
-    enum-told-6
-    enum-told-7
-    enum-told-8
     returns
     returns-2
     returns-3
@@ -165,8 +98,4 @@ with-record-spec =
     returns-7
     returns-8
     returns-9
-    returns-10
-    returns-11
-    returns-12
-    returns-13
-    returns-14)
+    returns-10)

@@ -10,6 +10,7 @@ use Rattle.parts.proofs.put_above_dash.Tie as tie
 use Rattle.parts.proofs.put_above_dash.Reads as reads
 use Rattle.parts.proofs.put_above_dash.Lts as lts
 use Rattle.parts.proofs.is_marked.Reads as is-marked-reads
+use Rattle.parts.proofs.put_heads.Reads as put-heads-reads
 use Rattle.parts.proofs.put_repeated.Reads as put-repeated-reads
 
 -- src/lib.rt:228:8
@@ -30,8 +31,8 @@ unfolding aboveDash repeated keptOf layoutOf
 returns c = draws-yes _ _ _ (sym (c .before .before .before .before .before .is-marked .ensures) ∙ c .before .before .before .before .if1 .taken) (c .before .before .put-repeated .ensures)
 
 -- src/lib.rt:231:5
-put-repeated-requires-2 : tie.Need-put-repeated-requires-2
-put-repeated-requires-2 c κs = search needs
+put-heads-requires : tie.Need-put-heads-requires
+put-heads-requires c κs = search needs
 
 -- src/lib.rt:216:1
 same-length-2 : tie.Need-same-length-2
@@ -40,7 +41,7 @@ same-length-2 c = search needs
 -- src/lib.rt:216:1
 returns-2 : tie.Need-returns-2
 unfolding aboveDash repeated keptOf layoutOf
-returns-2 c = draws-no _ _ _ (sym (c .before .before .before .before .before .is-marked .ensures) ∙ c .before .before .before .before .if1 .left) (c .before .before .put-repeated2 .ensures)
+returns-2 c = draws-no _ _ _ (sym (c .before .before .before .before .before .is-marked .ensures) ∙ c .before .before .before .before .if1 .left) (c .before .before .put-heads .ensures)
 
 pub put-above-dash-spec : {M : Type 1} → statement M
 put-above-dash-spec =
@@ -50,6 +51,6 @@ put-above-dash-spec =
     put-repeated-requires
     same-length
     returns
-    put-repeated-requires-2
+    put-heads-requires
     same-length-2
     returns-2)

@@ -1,4 +1,5 @@
 use Rattle.parts.proofs.Laws.{no-directive, some-directive}
+use native.Mathlib.Omega.{arith}
 use borrow.Author.Needs.{needs}
 use Rattle.parts.proofs.put_directive.Statement.{statement}
 use Rattle.parts.proofs.put_directive.Tie as tie
@@ -10,9 +11,12 @@ use Rattle.pen.proofs.Writer.text.Reads as text-reads
 
 -- src/lib.rt:341:9
 returns : tie.Need-returns
-returns c = no-directive _ _ _ (c .if1 .taken)
+returns c = no-directive _ _ _ _ (c .if1 .taken)
 
 -- src/lib.rt:344:26
+include-in-requires : tie.Need-include-in-requires
+include-in-requires c κs = search needs
+
 words-of-requires : tie.Need-words-of-requires
 words-of-requires c κs = search needs
 
@@ -30,7 +34,7 @@ words-of-requires-2 c κs = search needs
 
 -- src/lib.rt:346:5
 text-requires-2 : tie.Need-text-requires-2
-text-requires-2 c κs = search needs
+text-requires-2 c κs = omega (arith, c .before .before .before .before .byte .kept .1 .0, c .before .before .before .before .before .before .before .before .text .kept .1 .0, c .before .before .before .before .before .before .before .before .before .before .before .before .before .before .before .before .before .pre)
 
 -- src/lib.rt:336:1
 same-length : tie.Need-same-length
@@ -38,13 +42,14 @@ same-length c = search needs
 
 -- src/lib.rt:336:1
 returns-2 : tie.Need-returns-2
-returns-2 c = some-directive _ _ _ _ _ _ _ _ (c .before .before .before .before .before .before .before .before .before .before .before .before .before .before .before .if1 .left) (c .before .before .before .before .before .before .before .before .before .before .before .before .words-of .ensures) (c .before .before .before .words-of2 .ensures) (c .before .before .before .before .before .before .before .before .before .before .before .text .ensures) (c .before .before .before .before .before .before .before .byte .ensures) (c .before .before .text2 .ensures)
+returns-2 c = some-directive _ _ _ _ _ _ _ _ _ _ (c .before .before .before .before .before .before .before .before .before .before .before .before .before .before .before .if1 .left) (c .before .before .before .before .before .before .before .before .before .before .before .before .before .before .include-in .ensures) (c .before .before .before .before .before .before .before .before .before .before .before .before .words-of .ensures) (c .before .before .before .words-of2 .ensures) (c .before .before .before .before .before .before .before .before .before .before .before .text .ensures) (c .before .before .before .before .before .before .before .byte .ensures) (c .before .before .text2 .ensures)
 
 pub put-directive-spec : {M : Type 1} → statement M
 put-directive-spec =
     tie.close
     (tie.spec
     returns
+    include-in-requires
     words-of-requires
     text-requires
     byte-requires

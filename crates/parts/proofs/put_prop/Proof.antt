@@ -9,13 +9,16 @@ use Rattle.pen.proofs.Writer.text.Reads as text-reads
 
 -- src/lib.rt:199:9
 returns : tie.Need-returns
-returns c = no-prop _ _ _ _ _ (c .if1 .taken)
+returns c = no-prop _ _ _ _ _ _ (c .if1 .taken)
 
 -- src/lib.rt:201:9
 text-requires : tie.Need-text-requires
 text-requires c κs = search needs
 
 -- src/lib.rt:202:27
+text-in-requires : tie.Need-text-in-requires
+text-in-requires c κs = search needs
+
 words-of-requires : tie.Need-words-of-requires
 words-of-requires c κs = search needs
 
@@ -33,7 +36,7 @@ same-length c = search needs
 
 -- src/lib.rt:194:1
 returns-2 : tie.Need-returns-2
-returns-2 c = some-prop _ _ _ _ _ _ _ _ _ (c .before .before .before .before .before .before .before .before .before .before .before .before .before .if1 .left) (c .before .before .before .before .before .before .before .words-of .ensures) (c .before .before .before .before .before .before .before .before .before .before .before .text .ensures) (c .before .before .before .before .before .before .text2 .ensures) (c .before .before .text3 .ensures)
+returns-2 c = some-prop _ _ _ _ _ _ _ _ _ _ _ (c .before .before .before .before .before .before .before .before .before .before .before .before .before .before .if1 .left) (c .before .before .before .before .before .before .before .before .text-in .ensures) (c .before .before .before .before .before .before .before .words-of .ensures) (c .before .before .before .before .before .before .before .before .before .before .before .before .text .ensures) (c .before .before .before .before .before .before .text2 .ensures) (c .before .before .text3 .ensures)
 
 pub put-prop-spec : {M : Type 1} → statement M
 put-prop-spec =
@@ -41,6 +44,7 @@ put-prop-spec =
     (tie.spec
     returns
     text-requires
+    text-in-requires
     words-of-requires
     text-requires-2
     text-requires-3

@@ -1,31 +1,45 @@
+-- `parts::put_props` meets its contract.
+use Rattle.parts.specs.Lines.{propsOf}
 use Rattle.parts.proofs.Laws.{no-props}
 use borrow.Author.Needs.{needs}
 use Rattle.parts.proofs.put_props.Statement.{statement}
 use Rattle.parts.proofs.put_props.Tie as tie
-use Rattle.parts.proofs.put_props.Reads as reads
-use Rattle.parts.proofs.put_props.Lts as lts
-use Rattle.parts.proofs.has_props.Reads as has-props-reads
-use Rattle.parts.proofs.put_held.Reads as put-held-reads
 
--- src/lib.rt:46:8
-has-props-requires : tie.Need-has-props-requires
-has-props-requires c κs = search needs
+is-either-requires : tie.Need-is-either-requires
+is-either-requires c κs = search needs
 
--- src/lib.rt:47:16
-put-held-requires : tie.Need-put-held-requires
-put-held-requires c κs = search needs
+slice-aggregate-put-both : tie.Need-slice-aggregate-put-both
+slice-aggregate-put-both c = search needs
 
--- src/lib.rt:47:9
+slice-aggregate-put-both-2 : tie.Need-slice-aggregate-put-both-2
+slice-aggregate-put-both-2 c = search needs
+
+slice-aggregate-put-both-3 : tie.Need-slice-aggregate-put-both-3
+slice-aggregate-put-both-3 c = search needs
+
+put-both-requires : tie.Need-put-both-requires
+put-both-requires c κs = search needs
+
 same-length : tie.Need-same-length
 same-length c = search needs
 
--- src/lib.rt:47:9
 returns : tie.Need-returns
-returns c = c .before .before .put-held .ensures
+unfolding propsOf
+returns c = c .before .before .put-both .ensures
 
--- src/lib.rt:41:1
 returns-2 : tie.Need-returns-2
-returns-2 c = no-props _ _ _ (c .before .has-props .ensures) (c .if1 .left)
+unfolding propsOf
+returns-2 c = no-props _ _ _ _ _ _ _ _ (c .before .is-either .ensures) (c .if1 .left)
 
 pub put-props-spec : {M : Type 1} → statement M
-put-props-spec = tie.close (tie.spec has-props-requires put-held-requires same-length returns returns-2)
+put-props-spec =
+    tie.close
+    (tie.spec
+    is-either-requires
+    slice-aggregate-put-both
+    slice-aggregate-put-both-2
+    slice-aggregate-put-both-3
+    put-both-requires
+    same-length
+    returns
+    returns-2)

@@ -1,55 +1,47 @@
+-- `parts::put_props_compact` meets its contract.
 use Rattle.definition.specs.Walk.{propsCompact}
 use Rattle.node.specs.Total.{broughtOf}
-use Rattle.parts.specs.Draws.{both}
+use Rattle.parts.specs.Lines.{propsBy}
+use Rattle.parts.proofs.Laws.{no-props}
 use borrow.Author.Needs.{needs}
 use Rattle.parts.proofs.put_props_compact.Statement.{statement}
 use Rattle.parts.proofs.put_props_compact.Tie as tie
-use Rattle.parts.proofs.put_props_compact.Reads as reads
-use Rattle.parts.proofs.put_props_compact.Lts as lts
-use Rattle.parts.proofs.put_prop.Reads as put-prop-reads
 
--- src/lib.rt:220:37
-slice-aggregate-put-prop : tie.Need-slice-aggregate-put-prop
-slice-aggregate-put-prop c = search needs
+has-props-requires : tie.Need-has-props-requires
+has-props-requires c κs = search needs
 
--- src/lib.rt:220:53
-slice-aggregate-put-prop-2 : tie.Need-slice-aggregate-put-prop-2
-slice-aggregate-put-prop-2 c = search needs
+slice-aggregate-put-both : tie.Need-slice-aggregate-put-both
+slice-aggregate-put-both c = search needs
 
--- src/lib.rt:220:9
-put-prop-requires : tie.Need-put-prop-requires
-put-prop-requires c κs = search needs
+slice-aggregate-put-both-2 : tie.Need-slice-aggregate-put-both-2
+slice-aggregate-put-both-2 c = search needs
 
--- src/lib.rt:221:29
-slice-aggregate-put-prop-3 : tie.Need-slice-aggregate-put-prop-3
-slice-aggregate-put-prop-3 c = search needs
+slice-aggregate-put-both-3 : tie.Need-slice-aggregate-put-both-3
+slice-aggregate-put-both-3 c = search needs
 
--- src/lib.rt:221:49
-slice-aggregate-put-prop-4 : tie.Need-slice-aggregate-put-prop-4
-slice-aggregate-put-prop-4 c = search needs
+put-both-requires : tie.Need-put-both-requires
+put-both-requires c κs = search needs
 
--- src/lib.rt:221:5
-put-prop-requires-2 : tie.Need-put-prop-requires-2
-put-prop-requires-2 c κs = search needs
-
--- src/lib.rt:216:1
 same-length : tie.Need-same-length
 same-length c = search needs
 
--- src/lib.rt:216:1
 returns : tie.Need-returns
-unfolding propsCompact broughtOf
-returns c = both _ _ (c .before .before .before .before .before .before .before .before .put-prop .ensures) (c .before .before .put-prop2 .ensures)
+unfolding propsCompact propsBy broughtOf
+returns c = c .before .before .put-both .ensures
+
+returns-2 : tie.Need-returns-2
+unfolding propsCompact propsBy broughtOf
+returns-2 c = no-props _ _ _ _ _ _ _ _ (c .before .has-props .ensures) (c .if1 .left)
 
 pub put-props-compact-spec : {M : Type 1} → statement M
 put-props-compact-spec =
     tie.close
     (tie.spec
-    slice-aggregate-put-prop
-    slice-aggregate-put-prop-2
-    put-prop-requires
-    slice-aggregate-put-prop-3
-    slice-aggregate-put-prop-4
-    put-prop-requires-2
+    has-props-requires
+    slice-aggregate-put-both
+    slice-aggregate-put-both-2
+    slice-aggregate-put-both-3
+    put-both-requires
     same-length
-    returns)
+    returns
+    returns-2)

@@ -46,12 +46,12 @@ same-length c = search needs
 -- src/lib.rt:313:9
 returns : tie.Need-returns
 unfolding propsLine newline tagFirst broughtOf
-returns c = draws-yes _ _ _ (has-props-is (c .before .before .before .before .before .before .before .before .before .before .before .before .before .before .before .before .before .before .args .pool .now) (c .before .before .before .before .before .before .before .before .before .before .before .before .before .before .before .before .before .before .args .lead) ∙ sym (c .before .before .before .before .before .before .before .before .before .before .before .before .before .before .before .has-props .ensures) ∙ c .before .before .before .before .before .before .before .before .before .before .before .before .before .before .if1 .taken) (both _ _ (c .before .before .before .before .before .before .before .before .before .before .before .before .put-tag-first .ensures) (both _ _ (c .before .before .before .before .before .before .put-prop .ensures) (of-byte space _ (c .before .before .byte .ensures))))
+returns c = draws-yes _ _ _ (has-props-is (c .before .before .before .before .before .before .before .before .before .before .before .before .before .before .before .before .before .before .before .args .deck .now) (c .before .before .before .before .before .before .before .before .before .before .before .before .before .before .before .before .before .before .before .args .pool .now) (c .before .before .before .before .before .before .before .before .before .before .before .before .before .before .before .before .before .before .before .args .lead) ∙ sym (c .before .before .before .before .before .before .before .before .before .before .before .before .before .before .before .has-props .ensures) ∙ c .before .before .before .before .before .before .before .before .before .before .before .before .before .before .if1 .taken) (both _ _ (c .before .before .before .before .before .before .before .before .before .before .before .before .put-tag-first .ensures) (both _ _ (c .before .before .before .before .before .before .put-prop .ensures) (of-byte space _ (c .before .before .byte .ensures))))
 
 -- src/lib.rt:306:1
 returns-2 : tie.Need-returns-2
 unfolding propsLine newline tagFirst broughtOf
-returns-2 c = draws-no _ _ _ (has-props-is (c .before .before .before .before .args .pool .now) (c .before .before .before .before .args .lead) ∙ sym (c .before .has-props .ensures) ∙ c .if1 .left) stays
+returns-2 c = draws-no _ _ _ (has-props-is (c .before .before .before .before .before .args .deck .now) (c .before .before .before .before .before .args .pool .now) (c .before .before .before .before .before .args .lead) ∙ sym (c .before .has-props .ensures) ∙ c .if1 .left) stays
 
 pub put-props-line-spec : {M : Type 1} → statement M
 put-props-line-spec =

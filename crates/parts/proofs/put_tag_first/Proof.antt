@@ -24,7 +24,7 @@ same-length c = search needs
 
 -- src/lib.rt:300:9
 returns : tie.Need-returns
-returns c = alone _ _ _ _ (c .before .before .before .before .before .before .if1 .taken) (c .before .before .put-prop .ensures)
+returns c = alone _ _ _ _ _ (c .before .before .before .before .before .before .if1 .taken) (c .before .before .put-prop .ensures)
 
 -- src/lib.rt:302:28
 slice-aggregate-put-prop-3 : tie.Need-slice-aggregate-put-prop-3
@@ -44,7 +44,7 @@ same-length-2 c = search needs
 
 -- src/lib.rt:294:1
 returns-2 : tie.Need-returns-2
-returns-2 c = followed _ _ _ _ (c .before .before .before .before .before .before .if1 .left) (c .before .before .put-prop2 .ensures)
+returns-2 c = followed _ _ _ _ _ (c .before .before .before .before .before .before .if1 .left) (c .before .before .put-prop2 .ensures)
 
 pub put-tag-first-spec : {M : Type 1} → statement M
 put-tag-first-spec =

@@ -28,27 +28,27 @@ enum-told-5 c = search needs
 -- src/lib.rt:179:1
 returns : tie.Need-returns
 unfolding runOf
-returns c = cc
+returns c = rw (c .before .enum-told .given .1)
 
 -- src/lib.rt:179:1
 returns-2 : tie.Need-returns-2
 unfolding runOf
-returns-2 c = cc
+returns-2 c = rw (c .before .enum-told2 .given .1)
 
 -- src/lib.rt:179:1
 returns-3 : tie.Need-returns-3
 unfolding runOf
-returns-3 c = cc
+returns-3 c = rw (c .before .enum-told3 .given .1)
 
 -- src/lib.rt:179:1
 returns-4 : tie.Need-returns-4
 unfolding runOf
-returns-4 c = cc
+returns-4 c = rw (c .before .enum-told4 .given .1)
 
 -- src/lib.rt:179:1
 returns-5 : tie.Need-returns-5
 unfolding runOf
-returns-5 c = cc
+returns-5 c = rw (c .before .enum-told5 .given .1)
 
 pub run-of-spec : {M : Type 1} → statement M
 run-of-spec =

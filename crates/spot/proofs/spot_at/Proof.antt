@@ -1,24 +1,20 @@
-use Rattle.spot.specs.Spot.{spotAt, spotOf}
+-- `spot::spot_at` meets its contract.
 use borrow.Author.Needs.{needs}
+use Rattle.spot.proofs.Laws.{own-within, spot-is}
 use Rattle.spot.proofs.spot_at.Statement.{statement}
 use Rattle.spot.proofs.spot_at.Tie as tie
-use Rattle.spot.proofs.spot_at.Reads as reads
-use Rattle.spot.proofs.spot_at.Lts as lts
-use Rattle.node.proofs.head_at.Reads as head-at-reads
-use Rattle.spot.proofs.body_of.Reads as body-of-reads
 
--- src/lib.rt:54:9
-head-at-requires : tie.Need-head-at-requires
-head-at-requires c κs = search needs
+front-at-requires : tie.Need-front-at-requires
+front-at-requires c κs = search needs
 
--- src/lib.rt:59:9
-body-of-requires : tie.Need-body-of-requires
-body-of-requires c κs = search needs
+body-at-requires : tie.Need-body-at-requires
+body-at-requires c κs = own-within _ (c .before .before .before .before .args .c) (c .before .before .before .before .pre .0) _ (c .before .before .front-at .ensures)
 
--- src/lib.rt:50:1
+next-requires : tie.Need-next-requires
+next-requires c κs = own-within _ (c .before .before .before .before .before .args .c) (c .before .before .before .before .before .pre .0) _ (c .before .before .before .front-at .ensures)
+
 returns : tie.Need-returns
-unfolding spotAt spotOf
-returns c = rw (← c .before .before .before .before .head-at .ensures, c .body-of .ensures)
+returns c = spot-is _ (c .before .before .before .before .before .before .args .c) (c .before .before .before .before .before .before .pre .0) _ (c .before .before .before .before .front-at .ensures) _ _ (c .before .body-at .ensures) (c .next .ensures .0)
 
 pub spot-at-spec : {M : Type 1} → statement M
-spot-at-spec = tie.close (tie.spec head-at-requires body-of-requires returns)
+spot-at-spec = tie.close (tie.spec front-at-requires body-at-requires next-requires returns)

@@ -1,5 +1,6 @@
 use native.Mathlib.Omega.{arith}
 use Rattle.flow.specs.Ready.{after-drawn, further}
+use Rattle.parts.specs.Runs.{of-props}
 use Rattle.flow.proofs.Laws.{spot-good, few-spot, item-whole}
 use borrow.Author.Needs.{needs}
 use Prim.Native.Nat.{ℕ, _<_}
@@ -73,4 +74,4 @@ item-same-length t c = search needs
 
 -- src/lib.rt:328:1
 pub item-returns : (t : ℕ) → item-lts.Need-returns (item-claims t) (item-at t) item.Post
-item-returns t c = let r = (c .before .before .before .before .before .before .before .before .before .before .before .before .pre) .1 in item-whole _ _ _ _ _ _ _ (r .here) (r .deck-small) (c .before .before .before .before .before .before .before .before .spot-at .ensures) (c .before .before .before .before .before .before .put-props .ensures) (c .before .before .content .ensures)
+item-returns t c = let r = (c .before .before .before .before .before .before .before .before .before .before .before .before .pre) .1 in item-whole _ _ _ _ _ _ _ (r .here) (r .deck-small) (c .before .before .before .before .before .before .before .before .spot-at .ensures) (of-props _ _ (c .before .before .before .before .before .before .before .before .spot-at .result .lead) (c .before .before .before .before .before .before .put-props .ensures)) (c .before .before .content .ensures)

@@ -1,3 +1,4 @@
+use Rattle.parts.specs.Runs.{of-props}
 use Rattle.flow.proofs.Laws.{key-whole-is, keyed-at}
 use native.Mathlib.Omega.{arith}
 use mathlib.Core.Path.{refl, ap}
@@ -83,4 +84,4 @@ key-same-length t c = search needs
 
 -- src/lib.rt:301:1
 pub key-returns : (t : ℕ) → key-lts.Need-returns (key-claims t) (key-at t) key.Post
-key-returns t c = key-whole-is _ _ _ _ _ _ _ _ _ _ _ _ _ _ (c .before .before .before .before .before .before .before .before .before .before .before .before .before .put-props .ensures) (c .before .before .before .before .before .before .before .before .before .before .with-key .ensures) (c .before .before .before .before .before .before .before .before .content .ensures) (c .before .before .before .before .with-key2 .ensures) (c .before .before .put-colon .ensures)
+key-returns t c = key-whole-is _ _ _ _ _ _ _ _ _ _ _ _ _ _ (of-props _ _ (c .before .before .before .before .before .before .before .before .before .before .before .before .before .before .before .before .before .before .args .x .lead) (c .before .before .before .before .before .before .before .before .before .before .before .before .before .put-props .ensures)) (c .before .before .before .before .before .before .before .before .before .before .with-key .ensures) (c .before .before .before .before .before .before .before .before .content .ensures) (c .before .before .before .before .with-key2 .ensures) (c .before .before .put-colon .ensures)
