@@ -46,6 +46,7 @@ fn main() {
 fn find_archive() {
     println!("cargo:rerun-if-env-changed=RASSEMOK_ARCHIVE");
     println!("cargo:rerun-if-env-changed=RASSEMOK_APART");
+    println!("cargo:rerun-if-env-changed=RASSEMOK_LINKED");
     println!("cargo:rustc-check-cfg=cfg(archive, archive_apart)");
     println!(
         "cargo:rustc-check-cfg=cfg(archive_has, values({}))",
@@ -79,10 +80,15 @@ fn find_archive() {
     println!("cargo:rustc-link-lib=static=rassemok");
 }
 
-/// The archive is for x86-64: nothing else links it. RASSEMOK_APART asks for the process there too.
+/// The archive is for x86-64: nothing else links it. RASSEMOK_APART asks for the process there too. RASSEMOK_LINKED says that this archive is for the
+/// machine at hand.
 fn is_apart() -> bool {
     let machine = env::var("CARGO_CFG_TARGET_ARCH").expect("cargo sets CARGO_CFG_TARGET_ARCH");
-    machine != "x86_64" || env::var_os("RASSEMOK_APART").is_some_and(|asked| !asked.is_empty())
+    !is_asked("RASSEMOK_LINKED") && (machine != "x86_64" || is_asked("RASSEMOK_APART"))
+}
+
+fn is_asked(name: &str) -> bool {
+    env::var_os(name).is_some_and(|asked| !asked.is_empty())
 }
 
 fn quoted(words: &[&str]) -> String {
