@@ -13,24 +13,13 @@ use Rattle.definition.specs.Deck.{Read, fault, got, bind, Whole, keep, bring, i
 use Rattle.definition.specs.declared.Cursor.{Cursor}
 use Rattle.definition.specs.declared.Record.{Record}
 use Rattle.definition.specs.declared.Record.the-variants as is
+use Rattle.laws.specs.Gives.{Gives, gives-fault, gives-got, gives-bind}
 use Rattle.deck.specs.Next.{nextOf}
 use Rattle.deck.specs.Outcome.{Sound, Outcome, bad, good, outcome, next-past}
 use Rattle.node.specs.declared.Lead.{Lead}
 use Rattle.node.specs.Head.{Head, addTo, headed, headFrom, headAt, noLead}
 use Rattle.node.specs.Total.{Got, keptOf, broughtOf, itemsFrom, pairsFrom, shape, shapeOf, nodeFrom, treeAt, treesFrom, treesOf}
 use Rattle.agree.specs.Runs.{Fits, fits-more, fits-none}
-
--- a value that was read, and the cursor after it, are as P says
-data Gives {A : Type 0} (P : A → Cursor → Type 0) : Read A → Type 0 where
-  gives-fault : {n p : ℕ} → Gives P (fault n p)
-  gives-got : {a : A} {e : Cursor} → P a e → Gives P (got a e)
-
-gives-bind :
-    {A B : Type 0} {P : A → Cursor → Type 0} {Q : B → Cursor → Type 0} {r : Read A} {f : A → Cursor → Read B} →
-    Gives P r → ((a : A) (e : Cursor) → P a e → Gives Q (f a e)) → Gives Q (bind r f)
-unfolding bind
-gives-bind gives-fault g = gives-fault
-gives-bind (gives-got {a = a} {e = e} h) g = g a e h
 
 gives-at : {A : Type 0} {P : A → Cursor → Type 0} (r : Read A) (a : A) (e : Cursor) → Gives P r → r ≡ got a e → P a e
 gives-at (fault n p) a e g q = let z : _≡_ {A = ℕ} 0 1 = cc in absurd (omega arith)

@@ -19,7 +19,6 @@ use Rattle.definition.specs.declared.Words.{Words}
 use Rattle.definition.specs.declared.Settings.{Settings}
 use Rattle.node.specs.Total.{keptOf, broughtOf, treeAt}
 use Rattle.pen.specs.Pen.{Pen, put1, puts, ink}
-use Rattle.scripts.specs.Keep.{length-of}
 use Rattle.parts.specs.Draws.{Draws, both, of-byte, of-puts}
 use Rattle.parts.specs.Lines.{breaks, colonOpen, dashOpen}
 use Rattle.parts.specs.Runs.{Short}
@@ -27,23 +26,17 @@ use Rattle.spot.specs.declared.Body.{Body}
 use Rattle.spot.specs.declared.Body.the-variants as body
 use Rattle.spot.specs.declared.Spot.{Spot}
 use Rattle.spot.specs.Spot.{kindOf, endOf, keptIn, broughtIn, kindIn, endIn, nodeIn, spotAt, tree-value, tree-end}
-use Rattle.spot.specs.Good.{Good, good-at, isGroup, countIn, few-at}
+use Rattle.spot.specs.Good.{Good, isGroup, spot-good}
 use Rattle.atoms.specs.Atoms.{on}
 use Rattle.choices.specs.Choices.{blockIn, blockGroup, block-is, explicitIn, explicit-is, includedIn, included-is, valueColumnIn, value-column-is, itemColumnIn, item-column-is, onDashLineIn, on-dash-line-is}
 use Rattle.joints.specs.Entries.{nodeAt, nextAt, lastOf, entryEnd, runEnd, keyOf, items-end, pairs-end}
-use Rattle.flow.specs.Ready.{Ready, Emits}
+use Rattle.flow.specs.Ready.{Ready, Emits, kept-length}
 use Rattle.layout.specs.Calm.{Calm, calm-after, calm-further}
 use Rattle.layout.specs.Emitting.{drawn-first, drawn-last, emits-yes, emits-no, emits-same, earlier}
 use Rattle.layout.specs.Stretch.{before, includeAfter, keyLine}
 use Rattle.block.specs.Rows.{openingOf, underOf, dashIn, Footed, Coloned, explicitKey, keyPart, itemRow, pairRow, rowOf, rows, rows-items, rows-pairs}
 
 -- ---- the node at a cursor
-
-pub spot-good : (deck : Bytes) (c : Cursor) (x : Spot) → c .at ≤ length deck → length deck ≤ 65536 → x ≡ spotAt deck c → Good deck x × (c .at ≤ x .place) × (x .place ≤ length deck)
-spot-good deck c x k b e = let g = good-at deck c k b in rw e (g .0, g .1, (let a = g .0 .ahead in let w = g .0 .within in omega (arith, a, w)))
-
-pub few-spot : (deck : Bytes) → ((k : ℕ) → getD deck k 0 < 256) → (c : Cursor) (x : Spot) → c .at ≤ length deck → x ≡ spotAt deck c → countIn (x .body) < 65536
-few-spot deck b c x k e = rw e (few-at deck b c k)
 
 group-of : (b : Body) → blockIn b ≡ true → isGroup b ≡ true
 unfolding blockIn isGroup
@@ -56,9 +49,6 @@ group-of (body.Mapping g) e = refl
 -- a block collection's members lie further on
 pub deeper : (deck : Bytes) (x : Spot) (b : Bool) → Good deck x → b ≡ blockIn (x .body) → b ≡ true → x .place < x .next .at
 deeper deck x b g e f = g .deeper (group-of (x .body) (sym e ∙ f))
-
-pub kept-length : (s : Settings) {a : Script} {P Q : Pen} {n : ℕ} {c r : Cursor} {l : ℕ} → Emits s a P Q n c r l → length (Q .out) ≡ length (P .out)
-kept-length s {a} {P} {Q} e = length-of s a P Q (e .drawn)
 
 module _ (s : Settings) (deck pool : Bytes) where
   -- from the node that was read to the tree at its cursor

@@ -30,7 +30,7 @@ use Rattle.spot.specs.declared.Body.{Body}
 use Rattle.spot.specs.declared.Body.the-variants as body
 use Rattle.spot.specs.declared.Spot.{Spot}
 use Rattle.spot.specs.Spot.{kindOf, endOf, keptIn, broughtIn, kindIn, endIn, nodeIn, spotAt, tree-value, tree-end}
-use Rattle.spot.specs.Good.{Good, good-at, countIn, few-at}
+use Rattle.spot.specs.Good.{Good, spot-good}
 use Rattle.atoms.specs.Atoms.{on}
 use Rattle.choices.specs.Choices.{blockIn, noneIn, includedIn, rootColumnIn, bareRootIn, block-is, included-is, root-column-is, bare-root-is}
 use Rattle.joints.specs.Entries.{nodeAt, nextAt}
@@ -38,12 +38,6 @@ use Rattle.flow.specs.Ready.{Emits}
 use Rattle.layout.specs.Calm.{Calm}
 use Rattle.document.specs.Root.{calm-emits}
 use Rattle.document.specs.Pieces.{bomIn, startIn, stopIn, opened, separationIn, firstOf, laterOf, blockRoot, lineRoot, rootOf, bom-is, separation-is}
-
-pub spot-good : (deck : Bytes) (c : Cursor) (x : Spot) → c .at ≤ length deck → length deck ≤ 65536 → x ≡ spotAt deck c → Good deck x × (c .at ≤ x .place) × (x .place ≤ length deck)
-spot-good deck c x k b e = let g = good-at deck c k b in rw e (g .0, g .1, (let a = g .0 .ahead in let w = g .0 .within in omega (arith, a, w)))
-
-pub few-spot : (deck : Bytes) → ((k : ℕ) → getD deck k 0 < 256) → (c : Cursor) (x : Spot) → c .at ≤ length deck → x ≡ spotAt deck c → countIn (x .body) < 65536
-few-spot deck b c x k e = rw e (few-at deck b c k)
 
 on-zero : (n : ℕ) → n ≡ 0 → on n ≡ false
 unfolding on

@@ -30,7 +30,7 @@ use Rattle.spot.specs.declared.Body.{Body}
 use Rattle.spot.specs.declared.Body.the-variants as body
 use Rattle.spot.specs.declared.Spot.{Spot}
 use Rattle.spot.specs.Spot.{kindOf, endOf, keptIn, broughtIn, kindIn, endIn, nodeIn, spotAt, tree-value, tree-end}
-use Rattle.spot.specs.Good.{Good, good-at, isGroup, countIn, few-at}
+use Rattle.spot.specs.Good.{Good, isGroup, countIn, spot-good}
 use Rattle.atoms.specs.Atoms.{on, nullIn, commented, freshIn}
 use Rattle.choices.specs.Siblings.{SomeItems, SomePairs}
 use Rattle.joints.specs.Told.{Colon, LastOf}
@@ -68,13 +68,6 @@ last-is : (m : ℕ) → eqb (suc m) 1 ≡ isNone m
 unfolding isNone
 last-is zero = refl
 last-is (suc m) = ne-eqb (suc (suc m)) 1 (λ e. absurd (omega arith))
-
-pub spot-good : (deck : Bytes) (c : Cursor) (x : Spot) → c .at ≤ length deck → length deck ≤ 65536 → x ≡ spotAt deck c → Good deck x × (c .at ≤ x .place) × (x .place ≤ length deck)
-spot-good deck c x k b e = let g = good-at deck c k b in rw e (g .0, g .1, (let a = g .0 .ahead in let w = g .0 .within in omega (arith, a, w)))
-
--- the slice stays as long as it was
-pub kept-length : (s : Settings) {a : Script} {P Q : Pen} {n : ℕ} {c r : Cursor} {l : ℕ} → Emits s a P Q n c r l → length (Q .out) ≡ length (P .out)
-kept-length s {a} {P} {Q} e = length-of s a P Q (e .drawn)
 
 -- ---- the content of a node
 
@@ -489,9 +482,6 @@ some-pairs-are deck pairs c n r e h = record { told = λ pool. rw e (h .told poo
 pub some-items-are : (deck : Bytes) (pairs : Bool) (c : Cursor) (n : ℕ) (r : Bool) → pairs ≡ false → SomeItems deck c n r → AnyComments deck pairs n c r
 unfolding someComments
 some-items-are deck pairs c n r e h = record { told = λ pool. rw e (h .told pool) }
-
-pub few-spot : (deck : Bytes) → ((k : ℕ) → getD deck k 0 < 256) → (c : Cursor) (x : Spot) → c .at ≤ length deck → x ≡ spotAt deck c → countIn (x .body) < 65536
-few-spot deck b c x k e = rw e (few-at deck b c k)
 
 pub few-items : (x : Spot) (g : Group) → countIn (x .body) < 65536 → x .body ≡ body.Sequence g → g .count < 65536
 unfolding countIn

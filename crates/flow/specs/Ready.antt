@@ -11,7 +11,7 @@ use Rattle.definition.specs.Pen.{Script}
 use Rattle.definition.specs.declared.Cursor.{Cursor}
 use Rattle.definition.specs.declared.Settings.{Settings}
 use Rattle.pen.specs.Pen.{Pen, ink}
-use Rattle.scripts.specs.Keep.{Fit, ink-length, ink-flow, fit-of, withFlow, withKey, with-flow-fit, with-key-fit}
+use Rattle.scripts.specs.Keep.{Fit, length-of, ink-length, ink-flow, fit-of, withFlow, withKey, with-flow-fit, with-key-fit}
 use Rattle.parts.specs.Draws.{Draws}
 use Rattle.joints.specs.Entries.{someComments}
 
@@ -33,6 +33,10 @@ pub record Emits (s : Settings) (a : Script) (P P′ : Pen) (start : ℕ) (after
   pub next : after′ ≡ after
   pub onward : start ≤ after′ .at
   pub within : after′ .at ≤ limit
+
+-- the slice stays as long as it was
+pub kept-length : (s : Settings) {a : Script} {P Q : Pen} {n : ℕ} {c r : Cursor} {l : ℕ} → Emits s a P Q n c r l → length (Q .out) ≡ length (P .out)
+kept-length s {a} {P} {Q} e = length-of s a P Q (e .drawn)
 
 -- whether some entries have comments, whatever the pool holds
 pub record AnyComments (deck : Bytes) (pairs : Bool) (n : ℕ) (c : Cursor) (r : Bool) : Type 0 where

@@ -20,7 +20,7 @@ use Rattle.node.specs.Ends.{Ends}
 use Rattle.node.specs.Total.{keptOf, broughtOf, originOf, remarkOf}
 use Rattle.pen.specs.declared.Writer.{Writer}
 use Rattle.pen.specs.Pen.{Pen, pen, put1, puts, lineEnded, ink}
-use Rattle.scripts.specs.Keep.{withKey, flow-of, key-of, length-of, ink-in-key}
+use Rattle.scripts.specs.Keep.{withKey, flow-of, key-of, ink-in-key}
 use Rattle.parts.specs.Draws.{Draws, both, of-byte, of-end, of-puts}
 use Rattle.parts.specs.Lines.{directed, closes, belowOpen, breaks, beforeItem, beforeKey}
 use Rattle.spot.specs.declared.Body.{Body}
@@ -137,10 +137,6 @@ module _ (s : Settings) (deck pool : Bytes) where
   pub after-key : (w v : Writer) (out : Bytes) (n : ℕ) {at i : ℕ} → v ≡ withKey n (pen w []) .w → Ready s deck pool (pen w out) at i → Ready s deck pool (pen v out) at i
   unfolding withKey
   after-key w v out n e r = rw e (keyed r n)
-
--- the slice stays as long as it was
-pub kept-length : (s : Settings) {a : Script} {P Q : Pen} {n : ℕ} {c r : Cursor} {l : ℕ} → Emits s a P Q n c r l → length (Q .out) ≡ length (P .out)
-kept-length s {a} {P} {Q} e = length-of s a P Q (e .drawn)
 
 -- ---- before an item or a pair
 

@@ -12,6 +12,7 @@ use Rattle.definition.specs.Deck.{isNode, noLines}
 use Rattle.definition.specs.declared.Cursor.{Cursor}
 use Rattle.definition.specs.declared.Record.{Record}
 use Rattle.definition.specs.declared.Record.the-variants as is
+use Rattle.deck.specs.Kids.{either}
 use Rattle.deck.specs.Next.{nextOf}
 use Rattle.node.specs.declared.Lead.{Lead}
 use Rattle.node.specs.declared.Run.{Run}
@@ -119,25 +120,14 @@ pub record Good (deck : Bytes) (x : Spot) : Type 0 where
 
 module _ (deck : Bytes) where
   -- only kinds 23 and 24 are collections
-  pass : (b : Bool) (x y : Record) → isGroup (bodyOf x) ≡ false → isGroup (bodyOf y) ≡ false → isGroup (bodyOf (if b then x else y)) ≡ false
-  pass true x y p q = p
-  pass false x y p q = q
-
   no-group : (k at : ℕ) → (k ≡ 0x23 → ⊥) → (k ≡ 0x24 → ⊥) → isGroup (bodyOf (recordOf k deck at)) ≡ false
   unfolding recordOf bodyOf isGroup
   no-group k at p q =
       rw (ne-eqb k 0x23 p, ne-eqb k 0x24 q)
-      (pass (eqb k 0x01) _ _ refl
-      (pass (eqb k 0x02) _ _ refl
-      (pass (eqb k 0x03) _ _ refl
-      (pass (eqb k 0x04) _ _ refl
-      (pass (eqb k 0x05) _ _ refl
-      (pass (eqb k 0x06) _ _ refl
-      (pass (eqb k 0x07) _ _ refl
-      (pass (eqb k 0x08) _ _ refl
-      (pass (eqb k 0x09) _ _ refl
-      (pass (eqb k 0x21) _ _ refl
-      (pass (eqb k 0x22) _ _ refl refl)))))))))))
+      (no 0x01 _ _ refl (no 0x02 _ _ refl (no 0x03 _ _ refl (no 0x04 _ _ refl (no 0x05 _ _ refl (no 0x06 _ _ refl (no 0x07 _ _ refl (no 0x08 _ _ refl (no 0x09 _ _ refl (no 0x21 _ _ refl (no 0x22 _ _ refl refl)))))))))))
+    where
+      no : (n : ℕ) (x y : Record) → isGroup (bodyOf x) ≡ false → isGroup (bodyOf y) ≡ false → isGroup (bodyOf (if eqb k n then x else y)) ≡ false
+      no n x y = either (λ (r : Record). isGroup (bodyOf r) ≡ false) (eqb k n) {x = x} {y = y}
 
   group-onward : (c : Cursor) → isGroup (bodyOf (recordAt deck c)) ≡ true → c .at < nextOf deck c .at
   unfolding recordAt sizeOf
@@ -176,29 +166,24 @@ module _ (deck : Bytes) (bytes : (k : ℕ) → getD deck k 0 < 256) where
   unfolding groupAt wordAt byteAt
   few-group at = let x = bytes (at + 1) in let y = bytes (at + 1 + 1) in omega (arith, x, y)
 
-  choose : (b : Bool) (x y : Record) → countIn (bodyOf x) < 65536 → countIn (bodyOf y) < 65536 → countIn (bodyOf (if b then x else y)) < 65536
-  choose true x y p q = p
-  choose false x y p q = q
-
   few-record : (k at : ℕ) → countIn (bodyOf (recordOf k deck at)) < 65536
   unfolding recordOf bodyOf countIn
   few-record k at =
       let z : 0 < 65536 = omega arith in
-      choose (eqb k 0x01) _ _ z
-      (choose (eqb k 0x02) _ _ z
-      (choose (eqb k 0x03) _ _ z
-      (choose (eqb k 0x04) _ _ z
-      (choose (eqb k 0x05) _ _ z
-      (choose (eqb k 0x06) _ _ z
-      (choose (eqb k 0x07) _ _ z
-      (choose (eqb k 0x08) _ _ z
-      (choose (eqb k 0x09) _ _ z
-      (choose (eqb k 0x21) _ _ z
-      (choose (eqb k 0x22) _ _ z
-      (choose (eqb k 0x23) _ _ (few-group at)
-      (choose (eqb k 0x24) _ _ (few-group at) z))))))))))))
+      few 0x01 _ _ z (few 0x02 _ _ z (few 0x03 _ _ z (few 0x04 _ _ z (few 0x05 _ _ z (few 0x06 _ _ z (few 0x07 _ _ z (few 0x08 _ _ z (few 0x09 _ _ z (few 0x21 _ _ z (few 0x22 _ _ z (few 0x23 _ _ (few-group at) (few 0x24 _ _ (few-group at) z))))))))))))
+    where
+      few : (n : ℕ) (x y : Record) → countIn (bodyOf x) < 65536 → countIn (bodyOf y) < 65536 → countIn (bodyOf (if eqb k n then x else y)) < 65536
+      few n x y = either (λ (r : Record). countIn (bodyOf r) < 65536) (eqb k n) {x = x} {y = y}
 
   -- fewer than 65,536, since two bytes say it
   pub few-at : (c : Cursor) → c .at ≤ length deck → countIn (spotAt deck c .body) < 65536
   unfolding spotAt spotOf recordAt
   few-at c k = let o = head-at-onward deck c k in rw (o .own) (few-record (kindAt deck (headAt deck c .place)) (headAt deck c .place .at + 1))
+
+-- ---- the same of a node that was read at a cursor
+
+pub spot-good : (deck : Bytes) (c : Cursor) (x : Spot) → c .at ≤ length deck → length deck ≤ 65536 → x ≡ spotAt deck c → Good deck x × (c .at ≤ x .place) × (x .place ≤ length deck)
+spot-good deck c x k b e = let g = good-at deck c k b in rw e (g .0, g .1, (let a = g .0 .ahead in let w = g .0 .within in omega (arith, a, w)))
+
+pub few-spot : (deck : Bytes) → ((k : ℕ) → getD deck k 0 < 256) → (c : Cursor) (x : Spot) → c .at ≤ length deck → x ≡ spotAt deck c → countIn (x .body) < 65536
+few-spot deck b c x k e = rw e (few-at deck b c k)

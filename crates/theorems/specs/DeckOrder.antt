@@ -14,19 +14,10 @@ use Rattle.definition.specs.Deck
 use Rattle.definition.specs.declared.Cursor.{Cursor}
 use Rattle.definition.specs.declared.Record.{Record}
 use Rattle.definition.specs.declared.Record.the-variants as is
+use Rattle.laws.specs.Gives.{Gives, gives-fault, gives-got, gives-bind, got-out}
 use Rattle.theorems.specs.Order.{Rising, RisingItems, RisingPairs, RisingAll, OrderedAll}
 
--- ---- a value that was read, and the cursor after it, are as P says
-
-data Gives {A : Type 0} (P : A → Cursor → Type 0) : Deck.Read A → Type 0 where
-  gives-fault : {n p : ℕ} → Gives P (Deck.fault n p)
-  gives-got : {a : A} {c : Cursor} → P a c → Gives P (Deck.got a c)
-
-gives-bind : {A B : Type 0} {P : A → Cursor → Type 0} {Q : B → Cursor → Type 0} {r : Deck.Read A} {f : A → Cursor → Deck.Read B} → Gives P r
-    → ((a : A) (c : Cursor) → P a c → Gives Q (f a c)) → Gives Q (Deck.bind r f)
-unfolding Deck.bind
-gives-bind gives-fault g = gives-fault
-gives-bind (gives-got {a = a} {c = c} h) g = g a c h
+-- ---- what was read, and the cursor after it
 
 gives-if : {A : Type 0} {P : A → Cursor → Type 0} (b : Bool) {r q : Deck.Read A} → Gives P r → (T (not b) → Gives P q) → Gives P (if b then r else q)
 gives-if true f g = f
@@ -35,9 +26,6 @@ gives-if false f g = g tt
 gives-map : {A : Type 0} {P Q : A → Cursor → Type 0} {r : Deck.Read A} → Gives P r → ((a : A) (c : Cursor) → P a c → Q a c) → Gives Q r
 gives-map gives-fault g = gives-fault
 gives-map (gives-got {a = a} {c = c} h) g = gives-got (g a c h)
-
-got-out : {A : Type 0} {P : A → Cursor → Type 0} {a : A} {c : Cursor} → Gives P (Deck.got a c) → P a c
-got-out (gives-got h) = h
 
 -- ---- a tree read
 

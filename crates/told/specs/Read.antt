@@ -21,28 +21,20 @@ use Rattle.definition.specs.declared.Cursor.{Cursor}
 use Rattle.definition.specs.declared.Text.{Text}
 use Rattle.definition.specs.declared.Record.{Record}
 use Rattle.definition.specs.declared.Record.the-variants as is
+use Rattle.laws.specs.Gives.{gives-fault, gives-got, gives-bind, got-out}
+use Rattle.laws.specs.Gives as read
 use Rattle.pen.specs.Shown.{Sound}
 use Rattle.scripts.specs.Sound.{Formed, FormedNodes, FormedPairs, FormedAll, sound-one, sound-all}
 use Rattle.scripts.specs.Files.{FormedFiles, formed-files-all}
 
 -- ---- a value that was read is as P says
 
-data Gives {A : Type 0} (P : A → Type 0) : Deck.Read A → Type 0 where
-  gives-fault : {n p : ℕ} → Gives P (Deck.fault n p)
-  gives-got : {a : A} {c : Cursor} → P a → Gives P (Deck.got a c)
-
-gives-bind : {A B : Type 0} {P : A → Type 0} {Q : B → Type 0} {r : Deck.Read A} {f : A → Cursor → Deck.Read B} → Gives P r
-    → ((a : A) (c : Cursor) → P a → Gives Q (f a c)) → Gives Q (Deck.bind r f)
-unfolding Deck.bind
-gives-bind gives-fault g = gives-fault
-gives-bind (gives-got {a = a} {c = c} h) g = g a c h
+abbrev Gives : {A : Type 0} → (A → Type 0) → Deck.Read A → Type 0
+Gives {A} P r = read.Gives (λ (a : A) (c : Cursor). P a) r
 
 gives-if : {A : Type 0} {P : A → Type 0} (b : Bool) {r q : Deck.Read A} → (b ≡ true → Gives P r) → Gives P q → Gives P (if b then r else q)
 gives-if true f g = f refl
 gives-if false f g = g
-
-got-out : {A : Type 0} {P : A → Type 0} {a : A} {c : Cursor} → Gives P (Deck.got a c) → P a
-got-out (gives-got h) = h
 
 -- ---- texts
 

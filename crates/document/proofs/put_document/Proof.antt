@@ -1,7 +1,8 @@
 use Rattle.layout.specs.Calm.{calm-drawn, calm-after}
 use native.Mathlib.Omega.{arith}
 use Rattle.parts.specs.Runs.{repeated}
-use Rattle.document.proofs.Laws.{spot-good, document-whole}
+use Rattle.document.proofs.Laws.{document-whole}
+use Rattle.spot.specs.Good.{spot-good}
 use borrow.Author.Needs.{needs}
 use Rattle.document.proofs.put_document.Statement.{statement}
 use Rattle.document.proofs.put_document.Tie as tie

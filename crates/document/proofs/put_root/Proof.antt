@@ -1,7 +1,8 @@
 use Rattle.layout.specs.Calm.{calm-further}
 use mathlib.Core.Path.{sym, _∙_}
 use native.Mathlib.Omega.{arith}
-use Rattle.document.proofs.Laws.{spot-good, few-spot, root-directed, root-body}
+use Rattle.document.proofs.Laws.{root-directed, root-body}
+use Rattle.spot.specs.Good.{spot-good, few-spot}
 use borrow.Author.Needs.{needs}
 use Rattle.document.proofs.put_root.Statement.{statement}
 use Rattle.document.proofs.put_root.Tie as tie

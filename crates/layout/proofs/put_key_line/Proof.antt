@@ -1,5 +1,6 @@
 use Rattle.parts.specs.Runs.{of-props}
-use Rattle.layout.proofs.Laws.{key-line-whole, after-key, kept-length}
+use Rattle.layout.proofs.Laws.{key-line-whole, after-key}
+use Rattle.flow.specs.Ready.{kept-length}
 use Rattle.definition.specs.Pen.{mark, sign}
 use Rattle.flow.specs.Ready.{after, after-drawn}
 use Rattle.parts.specs.Draws.{of-byte}

@@ -2,7 +2,8 @@ use native.Mathlib.Omega.{arith}
 use Rattle.definition.specs.Pen.{mark}
 use Rattle.parts.specs.Draws.{of-byte}
 use Rattle.layout.specs.Calm.{calm-drawn, calm-further, in-line}
-use Rattle.block.proofs.Laws.{spot-good, few-spot, dash-included, dash-block, dash-plain}
+use Rattle.block.proofs.Laws.{dash-included, dash-block, dash-plain}
+use Rattle.spot.specs.Good.{spot-good, few-spot}
 use mathlib.Core.Path.{sym, _∙_}
 use borrow.Author.Needs.{needs}
 use Prim.Native.Nat.{ℕ, _<_}

@@ -1,6 +1,7 @@
 use native.Mathlib.Omega.{arith}
 use Rattle.layout.specs.Calm.{calm-drawn, calm-after, calm-further}
-use Rattle.block.proofs.Laws.{spot-good, few-spot, at-cursor, pair-row, item-row}
+use Rattle.block.proofs.Laws.{at-cursor, pair-row, item-row}
+use Rattle.spot.specs.Good.{spot-good, few-spot}
 use Rattle.block.specs.Rows.{keyPart}
 use borrow.Author.Needs.{needs}
 use Prim.Native.Nat.{ℕ, _<_}

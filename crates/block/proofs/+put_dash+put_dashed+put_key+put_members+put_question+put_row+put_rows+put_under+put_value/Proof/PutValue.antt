@@ -1,7 +1,8 @@
 use native.Mathlib.Omega.{arith}
 use mathlib.Core.Path.{refl}
 use Rattle.layout.specs.Calm.{calm-inside, in-line}
-use Rattle.block.proofs.Laws.{spot-good, few-spot, deeper, value-included, value-block, value-plain}
+use Rattle.block.proofs.Laws.{deeper, value-included, value-block, value-plain}
+use Rattle.spot.specs.Good.{spot-good, few-spot}
 use borrow.Author.Needs.{needs}
 use Prim.Native.Nat.{ℕ, _<_}
 use Rattle.block.proofs.put_dash.Reads as put-dash

@@ -1,6 +1,7 @@
 use native.Mathlib.Omega.{arith}
 use Rattle.flow.specs.Ready.{after, further}
-use Rattle.flow.proofs.Laws.{spot-good, few-spot, key-there, pair-emits, item-emits, after-byte}
+use Rattle.flow.proofs.Laws.{key-there, pair-emits, item-emits, after-byte}
+use Rattle.spot.specs.Good.{spot-good, few-spot}
 use borrow.Author.Needs.{needs}
 use Prim.Native.Nat.{ℕ, _<_}
 use Rattle.flow.proofs.content.Reads as content

@@ -1,7 +1,8 @@
 use native.Mathlib.Omega.{arith}
 use Rattle.flow.specs.Ready.{after-drawn, further}
 use Rattle.parts.specs.Runs.{of-props}
-use Rattle.flow.proofs.Laws.{spot-good, few-spot, item-whole}
+use Rattle.flow.proofs.Laws.{item-whole}
+use Rattle.spot.specs.Good.{spot-good, few-spot}
 use borrow.Author.Needs.{needs}
 use Prim.Native.Nat.{ℕ, _<_}
 use Rattle.flow.proofs.content.Reads as content

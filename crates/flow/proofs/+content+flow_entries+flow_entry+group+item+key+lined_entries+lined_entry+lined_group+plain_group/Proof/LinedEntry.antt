@@ -1,6 +1,7 @@
 use Rattle.flow.specs.Ready.{after, after-drawn}
 use native.Mathlib.Omega.{arith}
-use Rattle.flow.proofs.Laws.{spot-good, lined-entry-whole}
+use Rattle.flow.proofs.Laws.{lined-entry-whole}
+use Rattle.spot.specs.Good.{spot-good}
 use borrow.Author.Needs.{needs}
 use Prim.Native.Nat.{ℕ, _<_}
 use Rattle.flow.proofs.content.Reads as content

@@ -1,5 +1,6 @@
 use Rattle.flow.specs.Ready.{after}
-use Rattle.flow.proofs.Laws.{after-byte, kept-length}
+use Rattle.flow.proofs.Laws.{after-byte}
+use Rattle.flow.specs.Ready.{kept-length}
 use native.Mathlib.Omega.{arith}
 use Rattle.flow.proofs.Laws.{lined-whole}
 use borrow.Author.Needs.{needs}
