@@ -88,6 +88,7 @@ pub record Small (n : ℕ) (l : Lead) : Type 0 where
   pub foots : l .foots .count ≤ n
   pub directives : l .directives .count ≤ n
 
+-- a node's head
 pub record Head : Type 0 where
   pub lead : Lead
   pub own : Record

@@ -204,7 +204,7 @@ pub fn put_repeated(
     put_run(w, deck, pool, out, e, indent, run_of(lead, e))
 }
 
-// `emit_head`
+// `emit_head`. Most nodes have no head comments: that is tested before the writer is handed on.
 fn put_heads(
     w: Writer,
     deck: &[u8],
@@ -308,7 +308,7 @@ fn put_both(
     put_prop(w1, deck, pool, out, between, anchor, after)
 }
 
-// `emit_anchor_tag`
+// `emit_anchor_tag`. Most nodes have neither: that is tested here, so that the writer is not handed on for nothing.
 pub fn put_props(
     w: Writer,
     deck: &[u8],
@@ -326,7 +326,7 @@ pub fn put_props(
     w
 }
 
-// `emit_anchor_tag_compact`
+// `emit_anchor_tag_compact`, with the same test.
 pub fn put_props_compact(w: Writer, deck: &[u8], pool: &[u8], out: &mut [u8], lead: Lead) -> Writer
     requires { ⌜ length (now out) < 2 ^ 62 ⌝ }
     ensures { λ r. ⌜ Draws (propsCompact (broughtOf (now (deck .entry)) (now (pool .entry)) lead)) (pen w (now (out .entry))) (pen r (now (out .exit))) ⌝ }
