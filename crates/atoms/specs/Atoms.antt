@@ -18,6 +18,7 @@ use Rattle.definition.specs.Walk.{isBlockStyle, fresh, nullText}
 use Rattle.definition.specs.declared.Lines.{Lines}
 use Rattle.definition.specs.declared.Settings.{Settings}
 use Rattle.definition.specs.declared.Style.{Style}
+use Rattle.definition.specs.declared.Style.the-variants.{Plain, Single, Double, Literal, Folded}
 use Rattle.node.specs.declared.Lead.{Lead}
 use Rattle.node.specs.declared.Remark.{Remark}
 use Rattle.node.specs.Total.{keptOf, remarkOf}
@@ -25,6 +26,14 @@ use Rattle.node.specs.Total.{keptOf, remarkOf}
 -- a mark or a depth that is not 0
 unfoldable pub on : ℕ → Bool
 on n = not (eqb n 0)
+
+-- a number for each style: the deck's
+unfoldable pub numberOf : Style → ℕ
+numberOf Plain = 0
+numberOf Single = 1
+numberOf Double = 2
+numberOf Literal = 3
+numberOf Folded = 4
 
 -- `~` or `null`, from the layout record
 unfoldable pub nullIn : Settings → Lines → Bytes

@@ -26,7 +26,7 @@ ghost use Rattle.definition.specs.Walk.{isBlockStyle, replays};
 ghost use Rattle.node.specs.Total.{heldOf, remarkOf};
 ghost use Rattle.pen.specs.Pen.{pen, puts, ink};
 ghost use Rattle.parts.specs.Draws.{Draws};
-ghost use Rattle.atoms.specs.Atoms.{on, nullIn, commented, freshIn};
+ghost use Rattle.atoms.specs.Atoms.{on, numberOf, nullIn, commented, freshIn};
 
 fn is_tilde(settings: Settings) -> bool
     ensures { λ r. ⌜ r ≡ isTilde (settings .«null_style») ⌝ }
@@ -67,29 +67,33 @@ pub fn put_alias(w: Writer, pool: &[u8], out: &mut [u8], t: Text) -> Writer
     w1.text(out, deck::words_of(pool, t))
 }
 
+// A number for each style, the deck's: 0 plain, 1 single quoted, 2 double quoted, 3 literal, 4 folded.
+pub fn number_of(style: Style) -> usize
+    ensures { λ r. ⌜ r ≡ numberOf style ⌝ }
+{
+    match style {
+        Style::Plain => 0,
+        Style::Single => 1,
+        Style::Double => 2,
+        Style::Literal => 3,
+        Style::Folded => 4,
+    }
+}
+
 pub fn is_block_style(style: Style) -> bool
     ensures { λ r. ⌜ r ≡ isBlockStyle style ⌝ }
 {
-    match style {
-        Style::Plain => false,
-        Style::Single => false,
-        Style::Double => false,
-        Style::Literal => true,
-        Style::Folded => true,
-    }
+    number_of(style) > 2
 }
 
 // The marker of a block scalar.
 fn marker_of(style: Style) -> u8
     ensures { λ r. ⌜ r ≡ markerOf style ⌝ }
 {
-    match style {
-        Style::Plain => b'|',
-        Style::Single => b'|',
-        Style::Double => b'|',
-        Style::Literal => b'|',
-        Style::Folded => b'>',
+    if number_of(style) == 4 {
+        return b'>';
     }
+    b'|'
 }
 
 // The inline comment goes on a block scalar's header.
@@ -152,6 +156,16 @@ fn put_fresh(
     put_scalar(w, out, settings, flow, key, t, style, i)
 }
 
+// There is a raw text, and the node is not modified.
+fn is_replayed(raw: Held, modified: bool) -> bool
+    ensures { λ r. ⌜ r ≡ (on (raw .at) && not modified) ⌝ }
+{
+    if raw.at == 0 {
+        return false;
+    }
+    !modified
+}
+
 // A scalar: its raw text is replayed unless the node is modified.
 pub fn put_words(
     w: Writer,
@@ -172,11 +186,8 @@ pub fn put_words(
         (freshIn (on (w .flow)) (on (w .key)) i place (remarkOf (now (deck .entry)) (now (pool .entry)) remark) (words (now (pool .entry)) (said .text)) (said .style)))
         (pen w (now (out .entry))) ⌝ }
 {
-    if raw.at == 0 {
-        return put_fresh(w, deck, pool, out, settings, i, place, remark, said);
+    if is_replayed(raw, modified) {
+        return w.replay(out, deck::words_of(pool, deck::text_in(deck, raw.at)));
     }
-    if modified {
-        return put_fresh(w, deck, pool, out, settings, i, place, remark, said);
-    }
-    w.replay(out, deck::words_of(pool, deck::text_in(deck, raw.at)))
+    put_fresh(w, deck, pool, out, settings, i, place, remark, said)
 }

@@ -4,36 +4,34 @@ use mathlib.Core.Path.{_≡_, refl, sym, ap, _∙_}
 use Prim.Native.Nat.{ℕ, zero, suc, _+_, _-_, _<_, _≤_}
 use native.Mathlib.Omega.{arith}
 use mathlib.Core.Bool.{Bool, true, false}
-use mathlib.Core.List.{[], _∷_}
-use lib.ListN.{length, getD}
-use Rattle.definition.specs.Base.{Bytes, if_then_else_, spaces}
-use Rattle.definition.specs.Ascii.{LF, SP, '-', ':', '?'}
+use lib.ListN.{length}
+use Rattle.definition.specs.Base.{Bytes, if_then_else_}
+use Rattle.definition.specs.Ascii.{LF, SP, '-', '?'}
 use Rattle.definition.specs.Settings.{stepOf}
 use Rattle.definition.specs.Tree.{Node, kept}
-use Rattle.definition.specs.Pen.{mark, space, Script, comment, _>>_, nothing, newline, indent, sign}
-use Rattle.definition.specs.Walk.{heads, foots, belowDash, propsCompact, included, includeLine, isBlock, isExplicit, inlineKey, colonBlock, dashBlock, dashCompact, valueOf, bare, valueColumn, itemColumn, onDashLine, content, value, dash, keyBelow, members, blockItems, blockPairs}
+use Rattle.definition.specs.Pen.{mark, space, Script, nothing, newline, sign}
+use Rattle.definition.specs.Walk.{propsCompact, included, isBlock, colonBlock, dashBlock, dashCompact, valueOf, bare, valueColumn, itemColumn, onDashLine, content, value, dash, keyBelow, members}
 use Rattle.definition.specs.declared.Cursor.{Cursor}
 use Rattle.definition.specs.declared.Group.{Group}
 use Rattle.definition.specs.declared.Text.{Text}
 use Rattle.definition.specs.declared.Words.{Words}
 use Rattle.definition.specs.declared.Settings.{Settings}
-use Rattle.node.specs.Total.{keptOf, broughtOf, treeAt}
+use Rattle.node.specs.Total.{broughtOf}
 use Rattle.pen.specs.Pen.{Pen, put1, puts, ink}
-use Rattle.parts.specs.Draws.{Draws, both, of-byte, of-puts}
-use Rattle.parts.specs.Lines.{breaks, colonOpen, dashOpen}
-use Rattle.parts.specs.Runs.{Short}
+use Rattle.parts.specs.Draws.{Draws, of-byte}
+use Rattle.parts.specs.Lines.{before, breaks, colonOpen, dashOpen}
 use Rattle.spot.specs.declared.Body.{Body}
 use Rattle.spot.specs.declared.Body.the-variants as body
 use Rattle.spot.specs.declared.Spot.{Spot}
 use Rattle.spot.specs.Spot.{kindOf, endOf, keptIn, broughtIn, kindIn, endIn, nodeIn, spotAt, tree-value, tree-end}
 use Rattle.spot.specs.Good.{Good, isGroup, spot-good}
 use Rattle.atoms.specs.Atoms.{on}
-use Rattle.choices.specs.Choices.{blockIn, blockGroup, block-is, explicitIn, explicit-is, includedIn, included-is, valueColumnIn, value-column-is, itemColumnIn, item-column-is, onDashLineIn, on-dash-line-is}
+use Rattle.choices.specs.Choices.{blockIn, block-is, explicitIn, explicit-is, includedIn, included-is, valueColumnIn, value-column-is, itemColumnIn, item-column-is, onDashLineIn, on-dash-line-is}
 use Rattle.joints.specs.Entries.{nodeAt, nextAt, lastOf, entryEnd, runEnd, keyOf, items-end, pairs-end}
-use Rattle.flow.specs.Ready.{Ready, Emits, kept-length}
+use Rattle.flow.specs.Ready.{Emits, kept-length}
 use Rattle.layout.specs.Calm.{Calm, calm-after, calm-further}
 use Rattle.layout.specs.Emitting.{drawn-first, drawn-last, emits-yes, emits-no, emits-same, earlier}
-use Rattle.layout.specs.Stretch.{before, includeAfter, keyLine}
+use Rattle.layout.specs.Stretch.{includeAfter, keyLine}
 use Rattle.block.specs.Rows.{openingOf, underOf, dashIn, Footed, Coloned, explicitKey, keyPart, itemRow, pairRow, rowOf, rows, rows-items, rows-pairs}
 
 -- ---- the node at a cursor

@@ -1,5 +1,5 @@
 -- The members of a block collection, items or pairs, by the cursors where they stand; and that this is the walk over the collection's tree.
-use mathlib.Core.Path.{_≡_, refl, sym, ap, _∙_}
+use mathlib.Core.Path.{_≡_, refl}
 use Prim.Native.Nat.{ℕ, zero, suc, _+_}
 use mathlib.Core.Bool.{Bool, true, false}
 use Rattle.definition.specs.Base.{Bytes, if_then_else_}
@@ -10,12 +10,11 @@ use Rattle.definition.specs.Walk.{foots, isExplicit, inlineKey, content, dashCo
 use Rattle.definition.specs.declared.Cursor.{Cursor}
 use Rattle.definition.specs.declared.Settings.{Settings}
 use Rattle.node.specs.Total.{itemsFrom, pairsFrom, treeAt}
-use Rattle.pen.specs.Pen.{Pen, puts, ink}
+use Rattle.pen.specs.Pen.{Pen, ink}
 use Rattle.parts.specs.Draws.{Draws}
-use Rattle.parts.specs.Lines.{beforeItem, beforeKey, colonOpen, dashOpen}
+use Rattle.parts.specs.Lines.{headsOver, before, colonOpen, dashOpen}
 use Rattle.spot.specs.declared.Spot.{Spot}
 use Rattle.spot.specs.Spot.{keptIn, broughtIn, kindIn}
-use Rattle.layout.specs.Stretch.{before}
 use Rattle.joints.specs.Entries.{nodeAt, nextAt, lastOf, entryEnd}
 
 module _ (s : Settings) where
@@ -46,12 +45,12 @@ module _ (s : Settings) where
     -- ---- the walk over the tree
 
     pub rows-items : (i : ℕ) (lead first : Bool) (n : ℕ) (c : Cursor) (p : Pen) → ink s (blockItems s i lead (itemsFrom (treeAt deck pool) n c .value)) p ≡ ink s (rows i false lead first n c) p
-    unfolding ink blockItems itemsFrom rows rowOf itemRow entryEnd lastOf before beforeItem
+    unfolding ink blockItems itemsFrom rows rowOf itemRow entryEnd lastOf before headsOver
     rows-items i lead first zero c p = refl
     rows-items i lead first (suc n) c p = rows-items i true false n (nextAt deck pool c) _
 
     pub rows-pairs : (i : ℕ) (lead first : Bool) (n : ℕ) (c : Cursor) (p : Pen) → ink s (blockPairs s i lead first (pairsFrom (treeAt deck pool) n c .value)) p ≡ ink s (rows i true lead first n c) p
-    unfolding ink blockPairs pairsFrom rows rowOf pairRow keyPart explicitKey entryEnd lastOf before beforeKey
+    unfolding ink blockPairs pairsFrom rows rowOf pairRow keyPart explicitKey entryEnd lastOf before headsOver
     rows-pairs i lead first zero c p = refl
     rows-pairs i lead first (suc n) c p = rows-pairs i true false n (nextAt deck pool (nextAt deck pool c)) _
 

@@ -12,7 +12,6 @@ use node::Held;
 use node::Lead;
 use node::Origin;
 use node::Remark;
-use parts::has_props;
 use parts::is_either;
 use parts::is_marked;
 use spot::Body;
@@ -64,37 +63,19 @@ pub fn is_block(body: Body) -> bool
 pub fn is_sequence(body: Body) -> bool
     ensures { λ r. ⌜ r ≡ sequenceIn body ⌝ }
 {
-    match body {
-        Body::Null => false,
-        Body::Scalar(_) => false,
-        Body::Alias(_) => false,
-        Body::Sequence(_) => true,
-        Body::Mapping(_) => false,
-    }
+    spot::case_of(body) == 3
 }
 
 pub fn is_null(body: Body) -> bool
     ensures { λ r. ⌜ r ≡ noneIn body ⌝ }
 {
-    match body {
-        Body::Null => true,
-        Body::Scalar(_) => false,
-        Body::Alias(_) => false,
-        Body::Sequence(_) => false,
-        Body::Mapping(_) => false,
-    }
+    spot::case_of(body) == 0
 }
 
 fn is_plain(style: Style) -> bool
     ensures { λ r. ⌜ r ≡ isPlain style ⌝ }
 {
-    match style {
-        Style::Plain => true,
-        Style::Single => false,
-        Style::Double => false,
-        Style::Literal => false,
-        Style::Folded => false,
-    }
+    atoms::number_of(style) == 0
 }
 
 fn is_empty_plain(pool: &[u8], said: Words) -> bool
@@ -162,7 +143,7 @@ pub fn is_explicit(first: bool, lead: Lead, body: Body) -> bool
         return false;
     }
     if is_marked(lines.marks, 8) {
-        return has_props(lead);
+        return is_either(lead.tag, lead.anchor);
     }
     false
 }

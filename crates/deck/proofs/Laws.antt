@@ -2,9 +2,8 @@
 use mathlib.Core.Path.{_≡_, refl, sym, ap, _∙_}
 use mathlib.Core.Bool.{true, false}
 use mathlib.Core.List.{[]}
-use Prim.Native.Nat.{ℕ, zero, suc, _+_, _-_, _*_, _<_, _≤_}
+use Prim.Native.Nat.{ℕ, zero, suc, _+_, _-_, _*_, _<_, _≤_, min}
 use native.Mathlib.Omega.{arith}
-use native.Mathlib.Nat.{min-eq-left, min-eq-right, le-of-lt}
 use lib.ListN.{length, take, drop, length-drop, drop-of-length-le, List·getD-eq-default}
 use lib.Seq.{take-all, take-nil}
 use borrow.Author.Tests.{le-leb, lt-leb}
@@ -19,14 +18,9 @@ use Rattle.deck.specs.Kids.{kidsOf, twice, node-kind, no-kids}
 abbrev at-place : ℕ → Cursor
 at-place n = record { at = n }
 
-module _ (deck : Bytes) (c : Cursor) (k n : ℕ) (f : k ≡ kindAt deck c) (e : n ≡ sizeOf k) where
-  pub next-in : c .at + n < length deck → at-place (c .at + n) ≡ nextOf deck c
-  unfolding nextOf past
-  next-in h = rw (← f, ← e, min-eq-left (le-of-lt h))
-
-  pub next-out : length deck ≤ c .at + n → at-place (length deck) ≡ nextOf deck c
-  unfolding nextOf past
-  next-out h = rw (← f, ← e, min-eq-right h)
+pub next-is : (deck : Bytes) (c r : Cursor) (k n : ℕ) → k ≡ kindAt deck c → n ≡ sizeOf k → r .at ≡ min (c .at + n) (length deck) → r ≡ nextOf deck c
+unfolding nextOf past
+next-is deck c r k n f e h = ap (λ (m : ℕ). record { at = m }) (rw (← f, ← e) h)
 
 twice-is : (n : ℕ) → 2 * n ≡ twice n
 unfolding twice

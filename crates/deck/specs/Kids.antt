@@ -1,5 +1,5 @@
 -- How many nodes follow a record as its children, and what a record's kind says of it.
-use Prim.Native.Nat.{ℕ, zero, suc, _<_, _≤_}
+use Prim.Native.Nat.{ℕ, zero, suc, _+_, _<_, _≤_}
 use mathlib.Core.Path.{_≡_, refl, sym, ap, _∙_, subst}
 use mathlib.Core.Bool.{Bool, true, false, not, _&&_, _||_}
 use mathlib.Core.Logic.{⊎-elim}
@@ -8,8 +8,9 @@ use native.Mathlib.Omega.{arith}
 use lib.Dec.{T, eqb, ltb, eqb→eq}
 use borrow.Author.Tests.{ne-eqb, ltb-true, ltb-false, le-leb, lt-leb}
 use Rattle.definition.specs.Base.{Bytes, if_then_else_, within}
-use Rattle.definition.specs.Records.{recordOf}
+use Rattle.definition.specs.Records.{kindAt, recordOf, recordAt}
 use Rattle.definition.specs.Deck.{isNode}
+use Rattle.definition.specs.declared.Cursor.{Cursor}
 use Rattle.definition.specs.declared.Record.{Record}
 use Rattle.definition.specs.declared.Record.the-variants as is
 
@@ -17,6 +18,11 @@ use Rattle.definition.specs.declared.Record.the-variants as is
 pub either : {A : Type 0} (P : A → Type 0) (b : Bool) {x y : A} → P x → P y → P (if b then x else y)
 either P true p q = p
 either P false p q = q
+
+-- what is had of the record at a cursor, where its kind is known
+pub of-kind : {A : Type 0} (f : Record → A) (deck : Bytes) (c : Cursor) (v : ℕ) {k : ℕ} → k ≡ kindAt deck c → k ≡ v → f (recordOf v deck (c .at + 1)) ≡ f (recordAt deck c)
+unfolding recordAt
+of-kind f deck c v p q = rw (← p, q)
 
 unfoldable pub twice : ℕ → ℕ
 twice zero = zero

@@ -13,7 +13,7 @@ use definition::Text;
 use definition::Trailer;
 use definition::Words;
 ghost use mathlib.Core.Path.{_≡_};
-ghost use Prim.Native.Nat.{_+_, _<_, _≤_, _^_};
+ghost use Prim.Native.Nat.{_+_, _<_, _≤_, _^_, min};
 ghost use lib.ListN.{length, take, drop};
 ghost use Rattle.definition.specs.Records.{byteAt, wordAt, textAt, styleOf, formOf, sideOf, fileAt, includeAt, headingAt, trailerAt, linesAt, wordsAt, groupAt, recordOf, kindAt, recordAt, sizeOf};
 ghost use Rattle.definition.specs.Deck.{isNode, words};
@@ -44,12 +44,16 @@ pub fn byte(deck: &[u8], at: usize) -> usize
     if at < deck.len() { wide(deck[at]) } else { 0 }
 }
 
-// The number of two bytes, low byte first.
+// The number of two bytes, low byte first. One test does for both, but at the deck's end.
 pub fn word(deck: &[u8], at: usize) -> usize
     requires { ⌜ at < 2 ^ 63 + 32 ⌝ }
     ensures { λ r. ⌜ (r ≡ wordAt (now (deck .entry)) at) × (r < 65536) ⌝ }
 {
-    byte(deck, at) + 256 * byte(deck, at + 1)
+    let high = at + 1;
+    if high < deck.len() {
+        return wide(deck[at]) + 256 * wide(deck[high]);
+    }
+    byte(deck, at)
 }
 
 // The reference at a cursor. No other function reads one.
@@ -268,17 +272,30 @@ pub fn kind(deck: &[u8], c: Cursor) -> usize
     byte(deck, c.at)
 }
 
-// The cursor after the record at a cursor, and never past the end.
-pub fn next(deck: &[u8], c: Cursor) -> Cursor
-    requires { ⌜ c .at ≤ length (now deck) ⌝ }
-    ensures { λ r. ⌜ (r ≡ nextOf (now (deck .entry)) c) × (r .at ≤ length (now (deck .entry))) ⌝ }
+// The cursor so many bytes after another, and never past the end.
+fn further(deck: &[u8], c: Cursor, size: usize) -> Cursor
+    requires { ⌜ (c .at ≤ length (now deck)) × (size ≤ 14) ⌝ }
+    ensures { λ r. ⌜ r .at ≡ min (c .at + size) (length (now (deck .entry))) ⌝ }
 {
-    let end = c.at + size_of(kind(deck, c));
+    let end = c.at + size;
     if end < deck.len() {
         Cursor { at: end }
     } else {
         Cursor { at: deck.len() }
     }
+}
+
+// The cursor after the record at a cursor, and never past the end. Before most nodes stands a record 09: that kind is asked for by itself, so that
+// the machine goes on by a guess, and does not wait until a size was looked up.
+pub fn next(deck: &[u8], c: Cursor) -> Cursor
+    requires { ⌜ c .at ≤ length (now deck) ⌝ }
+    ensures { λ r. ⌜ (r ≡ nextOf (now (deck .entry)) c) × (r .at ≤ length (now (deck .entry))) ⌝ }
+{
+    let k = kind(deck, c);
+    if k == 0x09 {
+        return further(deck, c, 6);
+    }
+    further(deck, c, size_of(k))
 }
 
 // The record at a cursor, and the cursor after it.

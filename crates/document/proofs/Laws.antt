@@ -5,13 +5,12 @@ use Prim.Native.Nat.{ℕ, zero, suc, _-_, _<_, _≤_}
 use native.Mathlib.Omega.{arith}
 use mathlib.Core.Bool.{Bool, true, false, not, _&&_, true≢false}
 use mathlib.Core.List.{[], _∷_}
-use lib.ListN.{length, getD}
-use lib.Dec.{leb}
+use lib.ListN.{length}
 use borrow.Author.Tests.{le-leb, lt-leb}
-use Rattle.definition.specs.Base.{Bytes, if_then_else_}
+use Rattle.definition.specs.Base.{Bytes}
 use Rattle.definition.specs.Settings.{stepOf}
 use Rattle.definition.specs.Deck.{layoutOf}
-use Rattle.definition.specs.Tree.{Node, node, kept}
+use Rattle.definition.specs.Tree.{Node, kept}
 use Rattle.definition.specs.Pen.{Script, _>>_, nothing}
 use Rattle.definition.specs.Walk.{heads, foots, props, propsLine, includeLine, inlined, content, contentOf, members}
 use Rattle.definition.specs.Document.{directives, body, bom, document, oneDocument, separation, laterDocuments, allDocuments}
@@ -20,7 +19,7 @@ use Rattle.definition.specs.declared.Lines.{Lines}
 use Rattle.definition.specs.declared.Settings.{Settings}
 use Rattle.node.specs.declared.Held.{Held}
 use Rattle.node.specs.declared.Remark.{Remark}
-use Rattle.node.specs.Total.{keptOf, broughtOf, originOf, remarkOf, treesFrom, treesOf}
+use Rattle.node.specs.Total.{keptOf, originOf, remarkOf, treesFrom, treesOf}
 use Rattle.node.specs.Ends.{Ends}
 use Rattle.pen.specs.Pen.{Pen, puts, ink}
 use Rattle.scripts.specs.Keep.{flow-of, key-of, length-of}
@@ -29,7 +28,7 @@ use Rattle.parts.specs.Lines.{closes, directed}
 use Rattle.spot.specs.declared.Body.{Body}
 use Rattle.spot.specs.declared.Body.the-variants as body
 use Rattle.spot.specs.declared.Spot.{Spot}
-use Rattle.spot.specs.Spot.{kindOf, endOf, keptIn, broughtIn, kindIn, endIn, nodeIn, spotAt, tree-value, tree-end}
+use Rattle.spot.specs.Spot.{endOf, keptIn, broughtIn, kindIn, endIn, nodeIn, spotAt, tree-value, tree-end}
 use Rattle.spot.specs.Good.{Good, spot-good}
 use Rattle.atoms.specs.Atoms.{on}
 use Rattle.choices.specs.Choices.{blockIn, noneIn, includedIn, rootColumnIn, bareRootIn, block-is, included-is, root-column-is, bare-root-is}

@@ -1,18 +1,18 @@
 -- Laws of content on one line, for the members of the cycle.
 -- Assumes nothing.
 use mathlib.Core.Path.{_≡_, refl, sym, ap, _∙_}
-use Prim.Native.Nat.{ℕ, zero, suc, _+_, _-_, _<_, _≤_, _^_}
+use Prim.Native.Nat.{ℕ, zero, suc, _+_, _-_, _<_, _≤_}
 use native.Mathlib.Omega.{arith}
-use mathlib.Core.Bool.{Bool, true, false, not}
+use mathlib.Core.Bool.{Bool, true, false}
 use mathlib.Core.List.{[], _∷_}
-use lib.ListN.{length, getD}
+use lib.ListN.{length}
 use lib.Dec.{eqb}
-use borrow.Author.Tests.{eq-eqb, ne-eqb}
+use borrow.Author.Tests.{ne-eqb}
 use Rattle.definition.specs.Base.{Bytes, if_then_else_, spaces}
 use Rattle.definition.specs.Ascii.{LF, SP, '*'}
 use Rattle.definition.specs.Settings.{stepOf}
 use Rattle.definition.specs.Deck.{words, marked, layoutOf}
-use Rattle.definition.specs.Tree.{Node, place, kept, brought}
+use Rattle.definition.specs.Tree.{place, kept, brought}
 use Rattle.definition.specs.Pen.{Script, comma, _>>_, nothing, newline, indent, sign}
 use Rattle.definition.specs.Walk.{props, inlineKey, colon, content, contentOf, replays, fresh, nullText}
 use Rattle.definition.specs.declared.Cursor.{Cursor}
@@ -20,13 +20,11 @@ use Rattle.definition.specs.declared.Group.{Group}
 use Rattle.definition.specs.declared.Text.{Text}
 use Rattle.definition.specs.declared.Words.{Words}
 use Rattle.definition.specs.declared.Settings.{Settings}
-use Rattle.node.specs.Total.{keptOf, broughtOf, heldOf, remarkOf, treeAt}
-use Rattle.node.specs.Fuel.{tree-moves}
+use Rattle.node.specs.Total.{keptOf, broughtOf, heldOf, remarkOf}
 use Rattle.pen.specs.declared.Writer.{Writer}
 use Rattle.pen.specs.Pen.{Pen, pen, put1, puts, ink}
 use Rattle.scripts.specs.Keep.{withFlow, withKey, ink-in-flow, ink-in-key, flow-of, key-of, length-of}
 use Rattle.parts.specs.Draws.{Draws}
-use Rattle.spot.specs.declared.Body.{Body}
 use Rattle.spot.specs.declared.Body.the-variants as body
 use Rattle.spot.specs.declared.Spot.{Spot}
 use Rattle.spot.specs.Spot.{kindOf, endOf, keptIn, broughtIn, kindIn, endIn, nodeIn, spotAt, tree-value, tree-end}
@@ -34,7 +32,7 @@ use Rattle.spot.specs.Good.{Good, isGroup, countIn, spot-good}
 use Rattle.atoms.specs.Atoms.{on, nullIn, commented, freshIn}
 use Rattle.choices.specs.Siblings.{SomeItems, SomePairs}
 use Rattle.joints.specs.Told.{Colon, LastOf}
-use Rattle.joints.specs.Entries.{nodeAt, nextAt, lastOf, entryEnd, runEnd, someComments, itemOf, keyOf, entryOf, flowRun, linedBefore, linedAfter, linedOf, isNone, linedRun, opening, closing, linedIn, plainIn, groupOf, group-items, group-pairs, items-end, pairs-end}
+use Rattle.joints.specs.Entries.{nodeAt, nextAt, lastOf, entryEnd, runEnd, someComments, itemOf, keyOf, entryKey, entryOf, flowRun, linedBefore, linedAfter, linedOf, isNone, linedRun, opening, closing, linedIn, plainIn, groupOf, group-items, group-pairs, items-end, pairs-end}
 use Rattle.flow.specs.Ready.{Ready, Emits, AnyComments, after, further, keyed, inside}
 
 -- ---- the marks of a pen: in flow, in a key
@@ -100,7 +98,7 @@ module _ (s : Settings) (deck pool : Bytes) where
 
   pub content-items :
       (x : Spot) (g : Group) (i : ℕ) {P Q : Pen} {r : Cursor} → Good deck x → x .body ≡ body.Sequence g
-      → Emits s (groupOf deck pool s (K P) i false (g .count) (x .next)) P Q (x .next .at) (runEnd deck pool false (g .count) (x .next)) r (length deck)
+      → Emits s (groupOf deck pool s true (K P) i false (g .count) (x .next)) P Q (x .next .at) (runEnd deck pool false (g .count) (x .next)) r (length deck)
       → Emits s (contentIn P i x) P Q (x .place) (endIn deck pool x) r (length deck)
   unfolding kindOf endOf
   content-items x g i {P} h b e =
@@ -115,7 +113,7 @@ module _ (s : Settings) (deck pool : Bytes) where
 
   pub content-pairs :
       (x : Spot) (g : Group) (i : ℕ) {P Q : Pen} {r : Cursor} → Good deck x → x .body ≡ body.Mapping g
-      → Emits s (groupOf deck pool s (K P) i true (g .count) (x .next)) P Q (x .next .at) (runEnd deck pool true (g .count) (x .next)) r (length deck)
+      → Emits s (groupOf deck pool s true (K P) i true (g .count) (x .next)) P Q (x .next .at) (runEnd deck pool true (g .count) (x .next)) r (length deck)
       → Emits s (contentIn P i x) P Q (x .place) (endIn deck pool x) r (length deck)
   unfolding kindOf endOf
   content-pairs x g i {P} h b e =
@@ -136,49 +134,42 @@ module _ (s : Settings) (deck pool : Bytes) where
   unfolding isGroup
   pairs-deeper x g h b = h .deeper (rw b)
 
-  -- ---- a flow collection: deeper in flow, and back
+  -- ---- a flow collection: its entries on lines of their own, or on one line
 
-  module _ (i : ℕ) (pairs : Bool) (n : ℕ) (c r : Cursor) (P Q R : Pen) (C : Bool) (told : AnyComments deck pairs n c C) where
-    group-emits :
-        (a : Script) → groupOf deck pool s (K P) i pairs n c ≡ a → Emits s a (withFlow (P .w .flow + 1) P) Q (c .at) (runEnd deck pool pairs n c) r (length deck)
-        → R ≡ withFlow (P .w .flow) Q → Emits s (groupOf deck pool s (K P) i pairs n c) P R (c .at) (runEnd deck pool pairs n c) r (length deck)
-    group-emits a g e b =
-        record {
-          drawn = rw g (b ∙ ap (withFlow (P .w .flow)) (e .drawn) ∙ ink-in-flow s a (P .w .flow + 1) P);
-          next = e .next;
-          onward = e .onward;
-          within = e .within;
-        }
+  module _ (i : ℕ) (pairs : Bool) (n : ℕ) (c r : Cursor) (f k C : Bool) (told : AnyComments deck pairs n c C) {P Q : Pen} where
+    pub group-lined :
+        (j : ℕ) → C ≡ true → j ≡ i + stepOf s → Emits s (linedIn deck pool s f k i j pairs n c) P Q (c .at) (runEnd deck pool pairs n c) r (length deck)
+        → Emits s (groupOf deck pool s f k i pairs n c) P Q (c .at) (runEnd deck pool pairs n c) r (length deck)
+    unfolding groupOf
+    group-lined j t h e = rw (← told .told pool, t, ← h) e
 
-    group-lined :
-        (j : ℕ) → C ≡ true → j ≡ i + stepOf s
-        → Emits s (linedIn deck pool s (F (withFlow (P .w .flow + 1) P)) (K (withFlow (P .w .flow + 1) P)) i j pairs n c) (withFlow (P .w .flow + 1) P) Q (c .at) (runEnd deck pool pairs n c) r (length deck)
-        → R ≡ withFlow (P .w .flow) Q → Emits s (groupOf deck pool s (K P) i pairs n c) P R (c .at) (runEnd deck pool pairs n c) r (length deck)
-    unfolding groupOf withFlow
-    group-lined j t k e b = group-emits (linedIn deck pool s true (K P) i j pairs n c) (rw (← told .told pool, t, k)) (rw (on-more (P .w .flow)) at e) b
+    pub group-plain :
+        C ≡ false → Emits s (plainIn deck pool s f k i pairs n c) P Q (c .at) (runEnd deck pool pairs n c) r (length deck)
+        → Emits s (groupOf deck pool s f k i pairs n c) P Q (c .at) (runEnd deck pool pairs n c) r (length deck)
+    unfolding groupOf
+    group-plain t e = rw (← told .told pool, t) e
 
-    group-plain :
-        C ≡ false
-        → Emits s (plainIn deck pool s (F (withFlow (P .w .flow + 1) P)) (K (withFlow (P .w .flow + 1) P)) i pairs n c) (withFlow (P .w .flow + 1) P) Q (c .at) (runEnd deck pool pairs n c) r (length deck)
-        → R ≡ withFlow (P .w .flow) Q → Emits s (groupOf deck pool s (K P) i pairs n c) P R (c .at) (runEnd deck pool pairs n c) r (length deck)
-    unfolding groupOf withFlow
-    group-plain t e b = group-emits (plainIn deck pool s true (K P) i pairs n c) (rw (← told .told pool, t)) (rw (on-more (P .w .flow)) at e) b
+  -- one flow collection deeper, and back
+  deeper :
+      (a : Script) {P Q R : Pen} {at : ℕ} {e r : Cursor} → Emits s a (withFlow (P .w .flow + 1) P) Q at e r (length deck) → R ≡ withFlow (P .w .flow) Q → Emits s a P R at e r (length deck)
+  deeper a {P} d b =
+      record {
+        drawn = b ∙ ap (withFlow (P .w .flow)) (d .drawn) ∙ ink-in-flow s a (P .w .flow + 1) P;
+        next = d .next;
+        onward = d .onward;
+        within = d .within;
+      }
 
-  -- the same of writers: in, and out again
-  module _ (i : ℕ) (pairs : Bool) (n : ℕ) (c r r′ : Cursor) (w v x u : Writer) (out out′ : Bytes) (C : Bool) (told : AnyComments deck pairs n c C) where
-    pub group-lined-is :
-        (j : ℕ) → C ≡ true → j ≡ i + stepOf s → v ≡ withFlow (w .flow + 1) (pen w []) .w
-        → Emits s (linedIn deck pool s (on (v .flow)) (on (v .key)) i j pairs n c) (pen v out) (pen x out′) (c .at) (runEnd deck pool pairs n c) r (length deck)
-        → u ≡ withFlow (w .flow) (pen x []) .w → r′ ≡ r
-        → Emits s (groupOf deck pool s (on (w .key)) i pairs n c) (pen w out) (pen u out′) (c .at) (runEnd deck pool pairs n c) r′ (length deck)
-    group-lined-is j t k a e b q = rw q (group-lined i pairs n c r (pen w out) (pen x out′) (pen u out′) C told j t k (unfold withFlow in rw a at e) (flowed-is x u (w .flow) out′ b))
-
-    pub group-plain-is :
-        C ≡ false → v ≡ withFlow (w .flow + 1) (pen w []) .w
-        → Emits s (plainIn deck pool s (on (v .flow)) (on (v .key)) i pairs n c) (pen v out) (pen x out′) (c .at) (runEnd deck pool pairs n c) r (length deck)
-        → u ≡ withFlow (w .flow) (pen x []) .w → r′ ≡ r
-        → Emits s (groupOf deck pool s (on (w .key)) i pairs n c) (pen w out) (pen u out′) (c .at) (runEnd deck pool pairs n c) r′ (length deck)
-    group-plain-is t a e b q = rw q (group-plain i pairs n c r (pen w out) (pen x out′) (pen u out′) C told t (unfold withFlow in rw a at e) (flowed-is x u (w .flow) out′ b))
+  -- the same of writers
+  pub deeper-is :
+      (i : ℕ) (pairs : Bool) (n : ℕ) (c r r′ : Cursor) (w v x u : Writer) (out out′ : Bytes) → v ≡ withFlow (w .flow + 1) (pen w []) .w
+      → Emits s (groupOf deck pool s (on (v .flow)) (on (v .key)) i pairs n c) (pen v out) (pen x out′) (c .at) (runEnd deck pool pairs n c) r (length deck)
+      → u ≡ withFlow (w .flow) (pen x []) .w → r′ ≡ r
+      → Emits s (groupOf deck pool s true (on (w .key)) i pairs n c) (pen w out) (pen u out′) (c .at) (runEnd deck pool pairs n c) r′ (length deck)
+  unfolding withFlow
+  deeper-is i pairs n c r r′ w v x u out out′ a e b q =
+      let d : Emits s (groupOf deck pool s true (on (w .key)) i pairs n c) (withFlow (w .flow + 1) (pen w out)) (pen x out′) (c .at) (runEnd deck pool pairs n c) r (length deck) = rw (a, on-more (w .flow)) at e in
+      rw q (deeper (groupOf deck pool s true (on (w .key)) i pairs n c) {P = pen w out} d (flowed-is x u (w .flow) out′ b))
 
   -- ---- brackets
 
@@ -258,32 +249,43 @@ module _ (s : Settings) (deck pool : Bytes) where
 
   -- ---- one entry
 
-  pub pair-emits :
-      (i : ℕ) (pairs : Bool) (c d r : Cursor) {P₀ P₁ P₂ P₃ : Pen} → pairs ≡ true
-      → Emits s (keyOf deck pool s (F P₀) (K P₀) i (nodeAt deck pool c)) P₀ P₁ (c .at) (nextAt deck pool c) d (length deck)
-      → P₂ ≡ put1 P₁ SP
-      → Emits s (itemOf deck pool s (F P₂) (K P₂) i (nodeAt deck pool d)) P₂ P₃ (d .at) (nextAt deck pool d) r (length deck)
-      → Emits s (entryOf deck pool s (F P₀) (K P₀) i pairs c) P₀ P₃ (c .at) (entryEnd deck pool pairs c) r (length deck)
-  unfolding ink entryOf entryEnd lastOf sign puts
-  pair-emits i pairs c d r {P₀} {P₁} {P₂} t e b f =
-      let k₂ : P₂ ≡ ink s (keyOf deck pool s (F P₀) (K P₀) i (nodeAt deck pool c) >> sign SP) P₀ = b ∙ ap (λ (q : Pen). put1 q SP) (e .drawn) in
-      let a : Script = itemOf deck pool s (F P₀) (K P₀) i (nodeAt deck pool (nextAt deck pool c)) in
-      let z : ink s (itemOf deck pool s (F P₂) (K P₂) i (nodeAt deck pool d)) P₂ ≡ ink s a P₂ = let f₂ : F P₂ ≡ F P₀ = flow-kept s (keyOf deck pool s (F P₀) (K P₀) i (nodeAt deck pool c) >> sign SP) P₀ P₂ k₂ in let g₂ : K P₂ ≡ K P₀ = key-kept s (keyOf deck pool s (F P₀) (K P₀) i (nodeAt deck pool c) >> sign SP) P₀ P₂ k₂ in rw (f₂, g₂, e .next) in
+  pub key-emits :
+      (i : ℕ) (pairs f k : Bool) (c r : Cursor) {P₀ P₁ P₂ : Pen} → pairs ≡ true
+      → Emits s (keyOf deck pool s f k i (nodeAt deck pool c)) P₀ P₁ (c .at) (nextAt deck pool c) r (length deck) → P₂ ≡ put1 P₁ SP
+      → Emits s (entryKey deck pool s f k i pairs c) P₀ P₂ (c .at) (lastOf deck pool pairs c) r (length deck)
+  unfolding ink entryKey lastOf sign puts
+  key-emits i pairs f k c r t e b =
+      record {
+        drawn = rw t (b ∙ ap (λ (q : Pen). put1 q SP) (e .drawn));
+        next = rw t (e .next);
+        onward = e .onward;
+        within = e .within;
+      }
+
+  pub no-key :
+      (i : ℕ) (pairs f k : Bool) (c : Cursor) {P : Pen} → pairs ≡ false → c .at ≤ length deck
+      → Emits s (entryKey deck pool s f k i pairs c) P P (c .at) (lastOf deck pool pairs c) c (length deck)
+  unfolding ink entryKey lastOf nothing puts
+  no-key i pairs f k c t h = record { drawn = rw t; next = rw t; onward = omega arith; within = h }
+
+  pub entry-emits :
+      (i : ℕ) (pairs : Bool) (c d r : Cursor) {P₀ P₁ P₂ : Pen}
+      → Emits s (entryKey deck pool s (F P₀) (K P₀) i pairs c) P₀ P₁ (c .at) (lastOf deck pool pairs c) d (length deck)
+      → Emits s (itemOf deck pool s (F P₁) (K P₁) i (nodeAt deck pool d)) P₁ P₂ (d .at) (nextAt deck pool d) r (length deck)
+      → Emits s (entryOf deck pool s (F P₀) (K P₀) i pairs c) P₀ P₂ (c .at) (entryEnd deck pool pairs c) r (length deck)
+  unfolding ink entryOf entryEnd
+  entry-emits i pairs c d r {P₀} {P₁} e f =
+      let b : Script = entryKey deck pool s (F P₀) (K P₀) i pairs c in
+      let a : Script = itemOf deck pool s (F P₀) (K P₀) i (nodeAt deck pool (lastOf deck pool pairs c)) in
+      let z : ink s (itemOf deck pool s (F P₁) (K P₁) i (nodeAt deck pool d)) P₁ ≡ ink s a P₁ = let f₁ : F P₁ ≡ F P₀ = flow-kept s b P₀ P₁ (e .drawn) in let k₁ : K P₁ ≡ K P₀ = key-kept s b P₀ P₁ (e .drawn) in rw (f₁, k₁, e .next) in
       let p = e .onward in
       let q = f .onward in
       record {
-        drawn = rw t (f .drawn ∙ z ∙ ap (ink s a) k₂);
-        next = rw t (f .next ∙ ap (nextAt deck pool) (e .next));
+        drawn = f .drawn ∙ z ∙ ap (ink s a) (e .drawn);
+        next = f .next ∙ ap (nextAt deck pool) (e .next);
         onward = omega (arith, p, q);
         within = f .within;
       }
-
-  pub item-emits :
-      (i : ℕ) (pairs : Bool) (c r : Cursor) {P Q : Pen} → pairs ≡ false
-      → Emits s (itemOf deck pool s (F P) (K P) i (nodeAt deck pool c)) P Q (c .at) (nextAt deck pool c) r (length deck)
-      → Emits s (entryOf deck pool s (F P) (K P) i pairs c) P Q (c .at) (entryEnd deck pool pairs c) r (length deck)
-  unfolding entryOf entryEnd lastOf
-  item-emits i pairs c r t e = rw t e
 
   -- ---- the node at a cursor
 
@@ -354,15 +356,16 @@ module _ (s : Settings) (deck pool : Bytes) where
 
   pub lined-entry-whole :
       (pairs last : Bool) (c to r : Cursor) (x : Spot) (i : ℕ) {P₀ P₁ P₂ P₃ : Pen} → LastOf deck pairs c to → x ≡ spotAt deck to
-      → Draws (linedBefore deck pool i pairs c) P₀ P₁
+      → Draws (linedBefore deck pool i pairs c (keptOf deck pool (x .lead))) P₀ P₁
       → Emits s (entryOf deck pool s (F P₁) (K P₁) i pairs c) P₁ P₂ (c .at) (entryEnd deck pool pairs c) r (length deck)
       → Draws (linedAfter last (x .place) (remarkOf deck pool (x .lead .remark))) P₂ P₃
       → Emits s (linedOf deck pool s (F P₀) (K P₀) i pairs last c) P₀ P₃ (c .at) (entryEnd deck pool pairs c) r (length deck)
   unfolding ink linedOf place kept nodeIn keptOf
   lined-entry-whole pairs last c to r x i {P₀} {P₁} h e d m z =
+      let b : Script = linedBefore deck pool i pairs c (keptOf deck pool (x .lead)) in
       let y = d .drawn s in
       let a : Script = entryOf deck pool s (F P₀) (K P₀) i pairs c in
-      let u : ink s (entryOf deck pool s (F P₁) (K P₁) i pairs c) P₁ ≡ ink s a P₁ = let f₁ : F P₁ ≡ F P₀ = flow-kept s (linedBefore deck pool i pairs c) P₀ P₁ y in let k₁ : K P₁ ≡ K P₀ = key-kept s (linedBefore deck pool i pairs c) P₀ P₁ y in rw (f₁, k₁) in
+      let u : ink s (entryOf deck pool s (F P₁) (K P₁) i pairs c) P₁ ≡ ink s a P₁ = let f₁ : F P₁ ≡ F P₀ = flow-kept s b P₀ P₁ y in let k₁ : K P₁ ≡ K P₀ = key-kept s b P₀ P₁ y in rw (f₁, k₁) in
       record {
         drawn = rw (← h .is pool, tree-value deck pool to (h .within), ← e) (z .drawn s ∙ ap (ink s (linedAfter last (x .place) (remarkOf deck pool (x .lead .remark)))) (m .drawn ∙ u ∙ ap (ink s a) y));
         next = m .next;
@@ -381,9 +384,8 @@ module _ (s : Settings) (deck pool : Bytes) where
 
   -- inside a flow collection
   pub group-in :
-      (w v : Writer) (out : Bytes) (at i n : ℕ) (to : ℕ) → v ≡ withFlow (w .flow + 1) (pen w []) .w → n ≡ stepOf s → Ready s deck pool (pen w out) at i → at < to → to ≤ length deck
-      → Ready s deck pool (pen v out) to (i + n)
-  group-in w v out at i n to e k r l m = rw (flowed-is w v (w .flow + 1) out e, k) (inside r to l m)
+      (w v : Writer) (out : Bytes) (at i to : ℕ) → v ≡ withFlow (w .flow + 1) (pen w []) .w → Ready s deck pool (pen w out) at i → at < to → to ≤ length deck → Ready s deck pool (pen v out) to (i + stepOf s)
+  group-in w v out at i to e r l m = rw (flowed-is w v (w .flow + 1) out e) (inside r to l m)
 
   -- ---- the loops over entries: finishing from here ends as finishing from the start would
 

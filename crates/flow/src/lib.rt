@@ -9,13 +9,14 @@ ghost use Prim.Native.Nat.{_+_, _<_, _≤_, _^_};
 ghost use mathlib.Core.Bool.{true};
 ghost use mathlib.Core.List.{[]};
 ghost use lib.ListN.{length};
+ghost use Rattle.definition.specs.Settings.{stepOf};
 ghost use Rattle.definition.specs.Walk.{contentOf};
 ghost use Rattle.pen.specs.Pen.{pen};
 ghost use Rattle.scripts.specs.Keep.{withFlow};
 ghost use Rattle.spot.specs.Spot.{keptIn, broughtIn, kindIn, nodeIn, endIn};
 ghost use Rattle.spot.specs.Good.{Good, countIn};
 ghost use Rattle.atoms.specs.Atoms.{on};
-ghost use Rattle.joints.specs.Entries.{nodeAt, nextAt, entryEnd, runEnd, itemOf, keyOf, entryOf, flowRun, linedOf, linedRun, linedIn, plainIn, groupOf};
+ghost use Rattle.joints.specs.Entries.{nodeAt, nextAt, lastOf, entryEnd, runEnd, itemOf, keyOf, entryKey, entryOf, flowRun, linedOf, linedRun, linedIn, plainIn, groupOf};
 ghost use Rattle.flow.specs.Ready.{Ready, Emits, AnyComments};
 
 // The writer after something was written, and the cursor after it in the deck.
@@ -85,34 +86,22 @@ pub fn content(
             let v = atoms::put_alias(w, pool, out, t);
             Emitted { w: v, next }
         }
-        Body::Sequence(g) => group(
-            w,
-            deck,
-            pool,
-            out,
-            settings,
-            false,
-            g.count,
-            next,
-            x.place,
-            i,
-        ),
-        Body::Mapping(g) => group(
-            w,
-            deck,
-            pool,
-            out,
-            settings,
-            true,
-            g.count,
-            next,
-            x.place,
-            i,
-        ),
+        Body::Sequence(g) => {
+            let flow = w.flow;
+            let v = joints::with_flow(w, flow + 1);
+            let e = group(v, deck, pool, out, settings, false, g.count, next, i);
+            back(e, flow)
+        }
+        Body::Mapping(g) => {
+            let flow = w.flow;
+            let v = joints::with_flow(w, flow + 1);
+            let e = group(v, deck, pool, out, settings, true, g.count, next, i);
+            back(e, flow)
+        }
     }
 }
 
-// A flow collection of n entries, whose record is at `place`: items, or pairs.
+// A flow collection of n entries: items, or pairs.
 fn group(
     w: Writer,
     deck: &[u8],
@@ -122,21 +111,16 @@ fn group(
     pairs: bool,
     n: usize,
     c: Cursor,
-    place: usize,
     i: usize,
 ) -> Emitted
-    requires { ⌜ (Ready settings (now deck) (now pool) (pen w (now out)) place i) × (place < c .at) × (c .at ≤ length (now deck)) × (n < 65536) ⌝ }
-    ensures { λ r. ⌜ Emits settings (groupOf (now (deck .entry)) (now (pool .entry)) settings (on (w .key)) i pairs n c) (pen w (now (out .entry))) (pen (r .w) (now (out .exit))) (c .at) (runEnd (now (deck .entry)) (now (pool .entry)) pairs n c) (r .next) (length (now (deck .entry))) ⌝ }
+    requires { ⌜ (Ready settings (now deck) (now pool) (pen w (now out)) (c .at) (i + stepOf settings)) × (n < 65536) ⌝ }
+    ensures { λ r. ⌜ Emits settings (groupOf (now (deck .entry)) (now (pool .entry)) settings (on (w .flow)) (on (w .key)) i pairs n c) (pen w (now (out .entry))) (pen (r .w) (now (out .exit))) (c .at) (runEnd (now (deck .entry)) (now (pool .entry)) pairs n c) (r .next) (length (now (deck .entry))) ⌝ }
 {
-    let flow = w.flow;
-    let v = joints::with_flow(w, flow + 1);
     let j = i + choices::step_of(settings);
     if commented(deck, pairs, c, n) {
-        let e = lined_group(v, deck, pool, out, settings, pairs, n, c, i, j);
-        return back(e, flow);
+        return lined_group(w, deck, pool, out, settings, pairs, n, c, i, j);
     }
-    let e = plain_group(v, deck, pool, out, settings, pairs, n, c, i);
-    back(e, flow)
+    plain_group(w, deck, pool, out, settings, pairs, n, c, i)
 }
 
 // `emit_commented_flow_sequence` and `emit_commented_flow_mapping`: each entry on a line of its own, at column j.
@@ -260,11 +244,35 @@ fn lined_entry(
 {
     let end = joints::last_of(deck, pairs, c);
     let x = spot::spot_at(deck, end);
-    let w1 = joints::put_lined_before(w, deck, pool, out, pairs, c, end, i);
+    let w1 = joints::put_lined_before(w, deck, pool, out, pairs, c, x.lead, i);
     let e = flow_entry(w1, deck, pool, out, settings, pairs, c, i);
     let next = e.next;
     let v1 = joints::put_lined_after(e.w, deck, pool, out, last, x.place, x.lead.remark);
     Emitted { w: v1, next }
+}
+
+// What stands before the item or the value of an entry: the key of a pair, and a space.
+fn entry_key(
+    w: Writer,
+    deck: &[u8],
+    pool: &[u8],
+    out: &mut [u8],
+    settings: Settings,
+    pairs: bool,
+    c: Cursor,
+    i: usize,
+) -> Emitted
+    requires { ⌜ Ready settings (now deck) (now pool) (pen w (now out)) (c .at) i ⌝ }
+    ensures { λ r. ⌜ Emits settings (entryKey (now (deck .entry)) (now (pool .entry)) settings (on (w .flow)) (on (w .key)) i pairs c) (pen w (now (out .entry))) (pen (r .w) (now (out .exit))) (c .at) (lastOf (now (deck .entry)) (now (pool .entry)) pairs c) (r .next) (length (now (deck .entry))) ⌝ }
+{
+    if pairs {
+        let x = spot::spot_at(deck, c);
+        let e = key(w, deck, pool, out, settings, x, i);
+        let next = e.next;
+        let v1 = e.w.byte(out, b' ');
+        return Emitted { w: v1, next };
+    }
+    Emitted { w, next: c }
 }
 
 // An entry: an item, or a key and its value.
@@ -281,14 +289,9 @@ fn flow_entry(
     requires { ⌜ Ready settings (now deck) (now pool) (pen w (now out)) (c .at) i ⌝ }
     ensures { λ r. ⌜ Emits settings (entryOf (now (deck .entry)) (now (pool .entry)) settings (on (w .flow)) (on (w .key)) i pairs c) (pen w (now (out .entry))) (pen (r .w) (now (out .exit))) (c .at) (entryEnd (now (deck .entry)) (now (pool .entry)) pairs c) (r .next) (length (now (deck .entry))) ⌝ }
 {
-    if pairs {
-        let x = spot::spot_at(deck, c);
-        let e = key(w, deck, pool, out, settings, x, i);
-        let next = e.next;
-        let v1 = e.w.byte(out, b' ');
-        return item(v1, deck, pool, out, settings, next, i);
-    }
-    item(w, deck, pool, out, settings, c, i)
+    let e = entry_key(w, deck, pool, out, settings, pairs, c, i);
+    let next = e.next;
+    item(e.w, deck, pool, out, settings, next, i)
 }
 
 // `emit_key`: a key with its properties and its colon.

@@ -1,6 +1,6 @@
 -- Laws of what stands between entries.
 -- Assumes nothing.
-use mathlib.Core.Path.{_≡_, refl, sym, ap, _∙_}
+use mathlib.Core.Path.{_≡_, refl}
 use Prim.Native.Nat.{ℕ, _≤_}
 use native.Mathlib.Omega.{arith}
 use mathlib.Core.Bool.{Bool, true, false}
@@ -10,23 +10,24 @@ use Rattle.definition.specs.Base.{Bytes, spaces}
 use Rattle.definition.specs.Ascii.{SP, ':'}
 use Rattle.definition.specs.Tree.{kept}
 use Rattle.definition.specs.Pen.{mark, space, sign, indent}
-use Rattle.definition.specs.Walk.{heads, colon}
+use Rattle.definition.specs.Walk.{colon}
 use Rattle.definition.specs.declared.Cursor.{Cursor}
 use Rattle.definition.specs.declared.Group.{Group}
 use Rattle.definition.specs.declared.Text.{Text}
 use Rattle.definition.specs.declared.Words.{Words}
+use Rattle.node.specs.declared.Lead.{Lead}
 use Rattle.node.specs.Ends.{Ends}
 use Rattle.node.specs.Total.{keptOf}
 use Rattle.pen.specs.Pen.{Pen, put1, puts}
-use Rattle.parts.specs.Draws.{Draws, both, of-puts, of-byte}
+use Rattle.parts.specs.Draws.{Draws, both, stays, of-puts, of-byte}
 use Rattle.parts.specs.declared.Entries.the-variants.{Heads}
 use Rattle.parts.specs.Runs.{Short, repeated}
 use Rattle.spot.specs.declared.Body.{Body}
 use Rattle.spot.specs.declared.Body.the-variants as body
 use Rattle.spot.specs.declared.Spot.{Spot}
 use Rattle.spot.specs.Spot.{kindOf, spotAt, nodeIn, tree-value}
-use Rattle.spot.specs.Good.{Good, good-at}
-use Rattle.joints.specs.Entries.{nodeAt, lastOf, linedBefore}
+use Rattle.spot.specs.Good.{good-at}
+use Rattle.joints.specs.Entries.{lastOf, keyHeads, linedBefore}
 use Rattle.joints.specs.Told.{Colon, LastOf}
 
 pub last-value : (deck : Bytes) (pairs : Bool) (c r : Cursor) → pairs ≡ true → Ends deck c r → LastOf deck pairs c r
@@ -68,20 +69,18 @@ colon-mapping b g P Q e d = record { drawn = λ deck pool c. rw e (one-colon d) 
 pub spot-short : (deck : Bytes) (c : Cursor) (x : Spot) → c .at ≤ length deck → length deck ≤ 65536 → x ≡ spotAt deck c → Short (x .lead)
 spot-short deck c x k b e = rw e (good-at deck c k b .0 .short)
 
-pub heads-of :
-    (deck pool : Bytes) (c : Cursor) (i : ℕ) (x : Spot) (P Q : Pen) → c .at ≤ length deck → x ≡ spotAt deck c
-    → Draws (repeated Heads (keptOf deck pool (x .lead)) i) P Q → Draws (heads (kept (nodeAt deck pool c)) i) P Q
-unfolding repeated kept nodeIn
-heads-of deck pool c i x P Q k e d = rw (tree-value deck pool c k, ← e) d
+pub key-heads :
+    (deck pool : Bytes) (i : ℕ) (pairs : Bool) (c : Cursor) (x : Spot) {P Q : Pen} → pairs ≡ true → c .at ≤ length deck → x ≡ spotAt deck c
+    → Draws (repeated Heads (keptOf deck pool (x .lead)) i) P Q → Draws (keyHeads deck pool i pairs c) P Q
+unfolding keyHeads repeated kept nodeIn
+key-heads deck pool i pairs c x t k e d = rw (t, tree-value deck pool c k, ← e) d
 
-pub before-pair :
-    (deck pool : Bytes) (i : ℕ) (pairs : Bool) (c last : Cursor) (P Q R S : Pen) → pairs ≡ true → LastOf deck pairs c last
-    → Draws (heads (kept (nodeAt deck pool c)) i) P Q → Draws (heads (kept (nodeAt deck pool last)) i) Q R → S ≡ puts (spaces i) R → Draws (linedBefore deck pool i pairs c) P S
-unfolding linedBefore lastOf indent
-before-pair deck pool i pairs c last P Q R S e h x y z = rw e (both _ _ x (both _ _ (rw (rw e at (h .is pool)) at y) (of-puts space _ z)))
+pub no-key-heads : (deck pool : Bytes) (i : ℕ) (pairs : Bool) (c : Cursor) {P : Pen} → pairs ≡ false → Draws (keyHeads deck pool i pairs c) P P
+unfolding keyHeads
+no-key-heads deck pool i pairs c t = rw t stays
 
-pub before-item :
-    (deck pool : Bytes) (i : ℕ) (pairs : Bool) (c : Cursor) (P Q R : Pen) → pairs ≡ false
-    → Draws (heads (kept (nodeAt deck pool c)) i) P Q → R ≡ puts (spaces i) Q → Draws (linedBefore deck pool i pairs c) P R
-unfolding linedBefore indent
-before-item deck pool i pairs c P Q R e x y = rw e (both _ _ x (of-puts space _ y))
+pub before-entry :
+    (deck pool : Bytes) (i : ℕ) (pairs : Bool) (c : Cursor) (l : Lead) {P Q R S : Pen} → Draws (keyHeads deck pool i pairs c) P Q
+    → Draws (repeated Heads (keptOf deck pool l) i) Q R → S ≡ puts (spaces i) R → Draws (linedBefore deck pool i pairs c (keptOf deck pool l)) P S
+unfolding linedBefore repeated indent
+before-entry deck pool i pairs c l x y z = both _ _ x (both _ _ y (of-puts space _ z))

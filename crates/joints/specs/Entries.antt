@@ -1,13 +1,12 @@
 -- The entries of a flow collection, items or pairs, by the cursors where they stand; and that this is the walk over the collection's tree.
-use mathlib.Core.Path.{_≡_, refl, sym, ap, _∙_}
+use mathlib.Core.Path.{_≡_, refl, ap, _∙_}
 use Prim.Native.Nat.{ℕ, zero, suc, _+_}
 use mathlib.Core.Bool.{Bool, true, false}
-use mathlib.Core.List.{[], _∷_}
 use mathlib.Core.Option.{Option}
 use Rattle.definition.specs.Base.{Bytes, if_then_else_}
 use Rattle.definition.specs.Ascii.{SP, COMMA, '[', ']', OPEN, CLOSE}
 use Rattle.definition.specs.Settings.{stepOf}
-use Rattle.definition.specs.Tree.{Inline, Kept, Brought, Node, Kind, Nodes, Pairs, node, sequence, mapping, end, item, close, pair, place, kept, brought}
+use Rattle.definition.specs.Tree.{Inline, Kept, Brought, Node, node, sequence, mapping, item, pair, place, kept, brought}
 use Rattle.definition.specs.Pen.{Script, comment, comma, _>>_, nothing, newline, indent, sign}
 use Rattle.definition.specs.Walk.{heads, props, inlineKey, someItem, somePair, anyComments, anyCommentsIn, content, contentOf, flowItems, flowPairs, linedItems, linedPairs}
 use Rattle.definition.specs.declared.Cursor.{Cursor}
@@ -55,10 +54,13 @@ module _ (deck pool : Bytes) where
   someComments true n c = anyCommentsIn (pairsFrom (treeAt deck pool) n c .value)
   someComments false n c = anyComments (itemsFrom (treeAt deck pool) n c .value)
 
-  -- what stands before an entry on a line of its own
-  unfoldable pub linedBefore : ℕ → Bool → Cursor → Script
-  linedBefore i true c = heads (kept (nodeAt c)) i >> heads (kept (nodeAt (nextAt c))) i >> indent i
-  linedBefore i false c = heads (kept (nodeAt c)) i >> indent i
+  -- what stands before an entry on a line of its own: the head comments of a pair's key, those of its value or of the item, and the indent
+  unfoldable pub keyHeads : ℕ → Bool → Cursor → Script
+  keyHeads i true c = heads (kept (nodeAt c)) i
+  keyHeads i false c = nothing
+
+  unfoldable pub linedBefore : ℕ → Bool → Cursor → Kept → Script
+  linedBefore i pairs c a = keyHeads i pairs c >> heads a i >> indent i
 
   module _ (s : Settings) (flow key : Bool) where
     -- a node with its properties, and a key
@@ -68,10 +70,13 @@ module _ (deck pool : Bytes) where
     unfoldable pub keyOf : ℕ → Node → Script
     keyOf i k = inlineKey k (content s flow true i k)
 
-    -- an entry
+    -- an entry: the key of a pair and a space, then the item or the value
+    unfoldable pub entryKey : ℕ → Bool → Cursor → Script
+    entryKey i true c = keyOf i (nodeAt c) >> sign SP
+    entryKey i false c = nothing
+
     unfoldable pub entryOf : ℕ → Bool → Cursor → Script
-    entryOf i true c = keyOf i (nodeAt c) >> sign SP >> itemOf i (nodeAt (nextAt c))
-    entryOf i false c = itemOf i (nodeAt c)
+    entryOf i pairs c = entryKey i pairs c >> itemOf i (nodeAt (lastOf pairs c))
 
     -- n entries on one line
     unfoldable pub flowRun : ℕ → Bool → Bool → ℕ → Cursor → Script
@@ -79,7 +84,7 @@ module _ (deck pool : Bytes) where
     flowRun i pairs first (suc n) c = (if first then nothing else comma key i) >> entryOf i pairs c >> flowRun i pairs false n (entryEnd pairs c)
 
     unfoldable pub linedOf : ℕ → Bool → Bool → Cursor → Script
-    linedOf i pairs last c = linedBefore i pairs c >> entryOf i pairs c >> linedAfter last (place (nodeAt (lastOf pairs c))) (kept (nodeAt (lastOf pairs c)) .inline)
+    linedOf i pairs last c = linedBefore i pairs c (kept (nodeAt (lastOf pairs c))) >> entryOf i pairs c >> linedAfter last (place (nodeAt (lastOf pairs c))) (kept (nodeAt (lastOf pairs c)) .inline)
 
     -- n entries on lines of their own
     unfoldable pub linedRun : ℕ → Bool → ℕ → Cursor → Script
@@ -93,19 +98,19 @@ module _ (deck pool : Bytes) where
   unfoldable pub plainIn : Settings → Bool → Bool → ℕ → Bool → ℕ → Cursor → Script
   plainIn s flow key i pairs n c = sign (opening pairs) >> flowRun s flow key i pairs true n c >> sign (closing pairs)
 
-  unfoldable pub groupOf : Settings → Bool → ℕ → Bool → ℕ → Cursor → Script
-  groupOf s key i pairs n c = if someComments pairs n c then linedIn s true key i (i + stepOf s) pairs n c else plainIn s true key i pairs n c
+  unfoldable pub groupOf : Settings → Bool → Bool → ℕ → Bool → ℕ → Cursor → Script
+  groupOf s flow key i pairs n c = if someComments pairs n c then linedIn s flow key i (i + stepOf s) pairs n c else plainIn s flow key i pairs n c
 
   -- ---- the walk over the tree
 
   module _ (s : Settings) (key : Bool) where
     flow-items : (i : ℕ) (first : Bool) (n : ℕ) (c : Cursor) (p : Pen) → ink s (flowItems s key i first (itemsFrom (treeAt deck pool) n c .value)) p ≡ ink s (flowRun s true key i false first n c) p
-    unfolding ink flowItems itemsFrom flowRun entryOf itemOf entryEnd lastOf
+    unfolding ink flowItems itemsFrom flowRun entryOf entryKey itemOf entryEnd lastOf nothing puts
     flow-items i first zero c p = refl
     flow-items i first (suc n) c p = flow-items i false n (nextAt c) _
 
     flow-pairs : (i : ℕ) (first : Bool) (n : ℕ) (c : Cursor) (p : Pen) → ink s (flowPairs s key i first (pairsFrom (treeAt deck pool) n c .value)) p ≡ ink s (flowRun s true key i true first n c) p
-    unfolding ink flowPairs pairsFrom flowRun entryOf itemOf keyOf entryEnd lastOf
+    unfolding ink flowPairs pairsFrom flowRun entryOf entryKey itemOf keyOf entryEnd lastOf nothing puts
     flow-pairs i first zero c p = refl
     flow-pairs i first (suc n) c p = flow-pairs i false n (nextAt (nextAt c)) _
 
@@ -120,20 +125,20 @@ module _ (deck pool : Bytes) where
     some-pair (suc n) c a p = refl
 
     lined-items : (i n : ℕ) (c : Cursor) (p : Pen) → ink s (linedItems s key i (itemsFrom (treeAt deck pool) n c .value)) p ≡ ink s (linedRun s true key i false n c) p
-    unfolding ink linedItems itemsFrom linedRun linedOf linedBefore linedAfter entryOf itemOf entryEnd lastOf
+    unfolding ink linedItems itemsFrom linedRun linedOf linedBefore keyHeads linedAfter entryOf entryKey itemOf entryEnd lastOf nothing puts
     lined-items i zero c p = refl
     lined-items i (suc n) c p =
         ap (λ (q : Pen). ink s (linedItems s key i (itemsFrom (treeAt deck pool) n (nextAt c) .value)) (ink s (comment (place (nodeAt c)) (kept (nodeAt c) .inline) >> newline) q)) (some-item n (nextAt c) (sign COMMA) _)
         ∙ lined-items i n (nextAt c) _
 
     lined-pairs : (i n : ℕ) (c : Cursor) (p : Pen) → ink s (linedPairs s key i (pairsFrom (treeAt deck pool) n c .value)) p ≡ ink s (linedRun s true key i true n c) p
-    unfolding ink linedPairs pairsFrom linedRun linedOf linedBefore linedAfter entryOf itemOf keyOf entryEnd lastOf
+    unfolding ink linedPairs pairsFrom linedRun linedOf linedBefore keyHeads linedAfter entryOf entryKey itemOf keyOf entryEnd lastOf nothing puts
     lined-pairs i zero c p = refl
     lined-pairs i (suc n) c p =
         ap (λ (q : Pen). ink s (linedPairs s key i (pairsFrom (treeAt deck pool) n (nextAt (nextAt c)) .value)) (ink s (comment (place (nodeAt (nextAt c))) (kept (nodeAt (nextAt c)) .inline) >> newline) q)) (some-pair n (nextAt (nextAt c)) (sign COMMA) _)
         ∙ lined-pairs i n (nextAt (nextAt c)) _
 
-    pub group-items : (flow : Bool) (i m : ℕ) (a : Kept) (b : Brought) (f : Form) (n : ℕ) (c : Cursor) (p : Pen) → ink s (contentOf s flow key i m a b (sequence f (itemsFrom (treeAt deck pool) n c .value))) p ≡ ink s (groupOf s key i false n c) p
+    pub group-items : (flow : Bool) (i m : ℕ) (a : Kept) (b : Brought) (f : Form) (n : ℕ) (c : Cursor) (p : Pen) → ink s (contentOf s flow key i m a b (sequence f (itemsFrom (treeAt deck pool) n c .value))) p ≡ ink s (groupOf s true key i false n c) p
     unfolding ink contentOf groupOf linedIn plainIn someComments opening closing
     group-items flow i m a b f n c p = go (anyComments (itemsFrom (treeAt deck pool) n c .value))
       where
@@ -144,7 +149,7 @@ module _ (deck pool : Bytes) where
         go true = ap (λ (q : Pen). ink s (indent i >> sign ']') q) (lined-items (i + stepOf s) n c _)
         go false = ap (λ (q : Pen). ink s (sign ']') q) (flow-items i true n c _)
 
-    pub group-pairs : (flow : Bool) (i m : ℕ) (a : Kept) (b : Brought) (f : Form) (n : ℕ) (c : Cursor) (p : Pen) → ink s (contentOf s flow key i m a b (mapping f (pairsFrom (treeAt deck pool) n c .value))) p ≡ ink s (groupOf s key i true n c) p
+    pub group-pairs : (flow : Bool) (i m : ℕ) (a : Kept) (b : Brought) (f : Form) (n : ℕ) (c : Cursor) (p : Pen) → ink s (contentOf s flow key i m a b (mapping f (pairsFrom (treeAt deck pool) n c .value))) p ≡ ink s (groupOf s true key i true n c) p
     unfolding ink contentOf groupOf linedIn plainIn someComments opening closing
     group-pairs flow i m a b f n c p = go (anyCommentsIn (pairsFrom (treeAt deck pool) n c .value))
       where

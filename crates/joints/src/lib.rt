@@ -1,6 +1,7 @@
 // What stands between and around the entries of a flow collection, and the marks of a run: in flow, in a key.
 use definition::Cursor;
 use definition::Settings;
+use node::Lead;
 use node::Remark;
 use parts::Entries;
 use pen::Writer;
@@ -12,15 +13,14 @@ ghost use lib.ListN.{length};
 ghost use Rattle.definition.specs.Base.{if_then_else_};
 ghost use Rattle.definition.specs.Ascii.{COMMA};
 ghost use Rattle.definition.specs.Pen.{comma, nothing, sign};
-ghost use Rattle.definition.specs.Tree.{kept};
-ghost use Rattle.definition.specs.Walk.{heads};
-ghost use Rattle.node.specs.Total.{remarkOf};
+ghost use Rattle.node.specs.Total.{keptOf, remarkOf};
 ghost use Rattle.pen.specs.Pen.{pen, ink};
 ghost use Rattle.scripts.specs.Keep.{withFlow, withKey};
 ghost use Rattle.parts.specs.Draws.{Draws};
+ghost use Rattle.parts.specs.Runs.{Short};
 ghost use Rattle.atoms.specs.Atoms.{on};
 ghost use Rattle.joints.specs.Told.{Colon, LastOf};
-ghost use Rattle.joints.specs.Entries.{nodeAt, linedBefore, linedAfter, opening, closing};
+ghost use Rattle.joints.specs.Entries.{keyHeads, linedBefore, linedAfter, opening, closing};
 
 pub fn with_flow(mut w: Writer, n: usize) -> Writer
     ensures { λ r. ⌜ r ≡ withFlow n (pen w []) .w ⌝ }
@@ -62,13 +62,24 @@ pub fn put_colon(w: Writer, out: &mut [u8], body: Body) -> Writer
     }
 }
 
-// The head comments of the node at a cursor.
-fn put_heads_at(w: Writer, deck: &[u8], pool: &[u8], out: &mut [u8], c: Cursor, i: usize) -> Writer
+// The head comments of the key of a pair.
+fn put_key_heads(
+    w: Writer,
+    deck: &[u8],
+    pool: &[u8],
+    out: &mut [u8],
+    pairs: bool,
+    c: Cursor,
+    i: usize,
+) -> Writer
     requires { ⌜ (length (now out) < 2 ^ 62) × (c .at ≤ length (now deck)) × (length (now deck) ≤ 65536) ⌝ }
-    ensures { λ r. ⌜ Draws (heads (kept (nodeAt (now (deck .entry)) (now (pool .entry)) c)) i) (pen w (now (out .entry))) (pen r (now (out .exit))) ⌝ }
+    ensures { λ r. ⌜ Draws (keyHeads (now (deck .entry)) (now (pool .entry)) i pairs c) (pen w (now (out .entry))) (pen r (now (out .exit))) ⌝ }
 {
-    let x = spot::spot_at(deck, c);
-    parts::put_repeated(w, deck, pool, out, x.lead, Entries::Heads, i)
+    if pairs {
+        let x = spot::spot_at(deck, c);
+        return parts::put_repeated(w, deck, pool, out, x.lead, Entries::Heads, i);
+    }
+    w
 }
 
 // The cursor of an entry's last node: a pair's value, or the item.
@@ -82,7 +93,7 @@ pub fn last_of(deck: &[u8], pairs: bool, c: Cursor) -> Cursor
     c
 }
 
-// What stands before an entry on a line of its own.
+// What stands before an entry on a line of its own; `lead` is of its value, or of the item.
 pub fn put_lined_before(
     w: Writer,
     deck: &[u8],
@@ -90,18 +101,15 @@ pub fn put_lined_before(
     out: &mut [u8],
     pairs: bool,
     c: Cursor,
-    last: Cursor,
+    lead: Lead,
     i: usize,
 ) -> Writer
-    requires { ⌜ (length (now out) < 2 ^ 62) × (c .at ≤ length (now deck)) × (last .at ≤ length (now deck)) × (length (now deck) ≤ 65536) × LastOf (now deck) pairs c last ⌝ }
-    ensures { λ r. ⌜ Draws (linedBefore (now (deck .entry)) (now (pool .entry)) i pairs c) (pen w (now (out .entry))) (pen r (now (out .exit))) ⌝ }
+    requires { ⌜ (length (now out) < 2 ^ 62) × (c .at ≤ length (now deck)) × (length (now deck) ≤ 65536) × Short lead ⌝ }
+    ensures { λ r. ⌜ Draws (linedBefore (now (deck .entry)) (now (pool .entry)) i pairs c (keptOf (now (deck .entry)) (now (pool .entry)) lead)) (pen w (now (out .entry))) (pen r (now (out .exit))) ⌝ }
 {
-    let w1 = put_heads_at(w, deck, pool, out, c, i);
-    if pairs {
-        let w2 = put_heads_at(w1, deck, pool, out, last, i);
-        return w2.spaces(out, i);
-    }
-    w1.spaces(out, i)
+    let w1 = put_key_heads(w, deck, pool, out, pairs, c, i);
+    let w2 = parts::put_repeated(w1, deck, pool, out, lead, Entries::Heads, i);
+    w2.spaces(out, i)
 }
 
 // The comma after an entry, but after the last one.

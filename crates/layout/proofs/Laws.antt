@@ -1,16 +1,14 @@
 -- Laws of lines of block layout.
 -- Assumes nothing.
 use mathlib.Core.Path.{_≡_, refl, sym, ap, _∙_}
-use Prim.Native.Nat.{ℕ, _<_, _≤_, max}
-use native.Mathlib.Omega.{arith}
+use Prim.Native.Nat.{ℕ, max}
 use mathlib.Core.Bool.{Bool, true, false, true≢false, _&&_}
-use mathlib.Core.List.{[], _∷_}
+use mathlib.Core.List.{[]}
 use lib.ListN.{length}
-use Rattle.definition.specs.Base.{Bytes, if_then_else_, spaces}
+use Rattle.definition.specs.Base.{Bytes, spaces}
 use Rattle.definition.specs.Ascii.{LF, SP}
 use Rattle.definition.specs.Deck.{marked, layoutOf}
-use Rattle.definition.specs.Tree.{Kept}
-use Rattle.definition.specs.Pen.{mark, space, Script, comment, endLine, _>>_, newline, indent, sign}
+use Rattle.definition.specs.Pen.{mark, space, Script, endLine, _>>_, newline, indent, sign}
 use Rattle.definition.specs.Walk.{props, propsCompact, includeLine, belowIntroducer, inlined, valueOf, bare, content, contentOf}
 use Rattle.definition.specs.declared.Cursor.{Cursor}
 use Rattle.definition.specs.declared.Lines.{Lines}
@@ -22,18 +20,18 @@ use Rattle.pen.specs.declared.Writer.{Writer}
 use Rattle.pen.specs.Pen.{Pen, pen, put1, puts, lineEnded, ink}
 use Rattle.scripts.specs.Keep.{withKey, flow-of, key-of, ink-in-key}
 use Rattle.parts.specs.Draws.{Draws, both, of-byte, of-end, of-puts}
-use Rattle.parts.specs.Lines.{directed, closes, belowOpen, breaks, beforeItem, beforeKey}
+use Rattle.parts.specs.Lines.{directed, closes, belowOpen, breaks}
 use Rattle.spot.specs.declared.Body.{Body}
 use Rattle.spot.specs.declared.Body.the-variants as body
 use Rattle.spot.specs.declared.Spot.{Spot}
-use Rattle.spot.specs.Spot.{kindOf, endOf, keptIn, broughtIn, kindIn, endIn, nodeIn}
+use Rattle.spot.specs.Spot.{endOf, keptIn, broughtIn, kindIn, endIn, nodeIn}
 use Rattle.spot.specs.Good.{Good}
 use Rattle.atoms.specs.Atoms.{on}
 use Rattle.choices.specs.Choices.{bareIn, bare-is, emptyIn}
 use Rattle.joints.specs.Entries.{nextAt}
 use Rattle.flow.specs.Ready.{Ready, Emits, keyed}
 use Rattle.layout.specs.Emitting.{drawn-first, drawn-last, emits-yes, emits-no, emits-same, calm-content}
-use Rattle.layout.specs.Stretch.{before, includeAfter, keyLine}
+use Rattle.layout.specs.Stretch.{includeAfter, keyLine}
 
 and-left : (a b : Bool) → (a && b) ≡ true → a ≡ true
 and-left true b e = refl
@@ -137,13 +135,3 @@ module _ (s : Settings) (deck pool : Bytes) where
   pub after-key : (w v : Writer) (out : Bytes) (n : ℕ) {at i : ℕ} → v ≡ withKey n (pen w []) .w → Ready s deck pool (pen w out) at i → Ready s deck pool (pen v out) at i
   unfolding withKey
   after-key w v out n e r = rw e (keyed r n)
-
--- ---- before an item or a pair
-
-pub before-pair : (pairs : Bool) (a : Kept) (i : ℕ) {P Q : Pen} → pairs ≡ true → Draws (beforeKey a i) P Q → Draws (before pairs a i) P Q
-unfolding before
-before-pair pairs a i t d = rw t d
-
-pub before-item : (pairs : Bool) (a : Kept) (i : ℕ) {P Q : Pen} → pairs ≡ false → Draws (beforeItem a i) P Q → Draws (before pairs a i) P Q
-unfolding before
-before-item pairs a i t d = rw t d

@@ -1,8 +1,7 @@
 -- What a function of block layout asks for: what content on one line asks, at a column that leaves a step of room, in no flow collection and no key.
-use mathlib.Core.Path.{_≡_, refl, sym, ap, _∙_}
+use mathlib.Core.Path.{_≡_, _∙_}
 use Prim.Native.Nat.{ℕ, _+_, _-_, _*_, _<_, _≤_}
 use native.Mathlib.Omega.{arith}
-use mathlib.Core.Bool.{Bool, true, false}
 use lib.ListN.{length}
 use Rattle.definition.specs.Base.{Bytes}
 use Rattle.definition.specs.Pen.{Script}

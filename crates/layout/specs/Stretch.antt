@@ -1,17 +1,11 @@
 -- Stretches of the walk's lines that are written together.
 use Prim.Native.Nat.{ℕ}
-use mathlib.Core.Bool.{Bool, true, false}
+use mathlib.Core.Bool.{true, false}
 use Rattle.definition.specs.Ascii.{SP}
 use Rattle.definition.specs.Tree.{Kept, Brought, Node}
 use Rattle.definition.specs.Pen.{Script, endLine, _>>_, sign}
 use Rattle.definition.specs.Walk.{props, includeLine, content}
 use Rattle.definition.specs.declared.Settings.{Settings}
-use Rattle.parts.specs.Lines.{beforeItem, beforeKey}
-
--- what stands before an item or a pair
-unfoldable pub before : Bool → Kept → ℕ → Script
-before true a i = beforeKey a i
-before false a i = beforeItem a i
 
 -- an include after `:` or `-`
 unfoldable pub includeAfter : ℕ → Kept → Script

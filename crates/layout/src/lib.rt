@@ -16,11 +16,12 @@ ghost use Rattle.node.specs.Total.{keptOf};
 ghost use Rattle.pen.specs.Pen.{pen};
 ghost use Rattle.parts.specs.Draws.{Draws};
 ghost use Rattle.parts.specs.Runs.{Short};
+ghost use Rattle.parts.specs.Lines.{before};
 ghost use Rattle.spot.specs.Spot.{keptIn, broughtIn, kindIn, nodeIn, endIn};
 ghost use Rattle.spot.specs.Good.{Good, countIn};
 ghost use Rattle.joints.specs.Entries.{nextAt};
 ghost use Rattle.flow.specs.Ready.{Ready, Emits};
-ghost use Rattle.layout.specs.Stretch.{before, includeAfter, keyLine};
+ghost use Rattle.layout.specs.Stretch.{includeAfter, keyLine};
 
 // An include's directive after `:` or `-`; the node's records are passed over.
 pub fn put_include(
@@ -146,10 +147,7 @@ pub fn put_before(
     ensures { λ r. ⌜ Draws (if begin then before pairs (keptOf (now (deck .entry)) (now (pool .entry)) lead) i else nothing) (pen w (now (out .entry))) (pen r (now (out .exit))) ⌝ }
 {
     if begin {
-        if pairs {
-            return parts::put_before_key(w, deck, pool, out, lead, i);
-        }
-        return parts::put_before_item(w, deck, pool, out, lead, i);
+        return parts::put_before(w, deck, pool, out, pairs, lead, i);
     }
     w
 }

@@ -46,13 +46,7 @@ pub struct Counted {
 fn is_mapping(body: Body) -> bool
     ensures { λ r. ⌜ r ≡ pairsIn body ⌝ }
 {
-    match body {
-        Body::Null => false,
-        Body::Scalar(_) => false,
-        Body::Alias(_) => false,
-        Body::Sequence(_) => false,
-        Body::Mapping(_) => true,
-    }
+    spot::case_of(body) == 4
 }
 
 // How many nodes are a node's children.

@@ -7,7 +7,7 @@ use lib.ListN.{length}
 use lib.Dec.{eqb}
 use borrow.Author.Tests.{eq-eqb, ne-eqb}
 use Rattle.definition.specs.Base.{Bytes, if_then_else_}
-use Rattle.definition.specs.Records.{kindAt, recordOf, recordAt, linesAt}
+use Rattle.definition.specs.Records.{kindAt, recordOf, recordAt}
 use Rattle.definition.specs.Deck.{isNode}
 use Rattle.definition.specs.declared.Cursor.{Cursor}
 use Rattle.definition.specs.declared.Record.{Record}
@@ -17,7 +17,7 @@ use Rattle.deck.specs.Kids.{either, kidsOf}
 use Rattle.node.specs.declared.Run.{Run}
 use Rattle.node.specs.declared.Lead.{Lead}
 use Rattle.node.specs.declared.Front.{Front}
-use Rattle.node.specs.Head.{onto, noLead, addTo, withTag, withAnchor, withOrigin, withRemark, withRaw, withLines, moreHeads, moreFoots, moreDirectives, Small, Head, frontOf, headed, headFrom, headAt, ownFrom}
+use Rattle.node.specs.Head.{onto, noLead, addTo, Small, Head, frontOf, headed, headFrom, headAt, ownFrom}
 use Rattle.node.specs.Comments.{isComment, commentFrom}
 use Rattle.node.specs.Total.{treeAt}
 use Rattle.node.specs.Fuel.{nexts, head-at-onward, place-within, own-is, tree-next}
@@ -63,42 +63,6 @@ small-step len left l m r c h k s e = rw e (small-fits {n = len - left + 1} _ (o
 -- ---- what a record adds, by its kind
 
 module _ (deck : Bytes) (c : Cursor) (l : Lead) (k : ℕ) (f : k ≡ kindAt deck c) where
-  pub add-tag : k ≡ 0x01 → withTag c l ≡ addTo (recordAt deck c) c l
-  unfolding recordAt recordOf addTo
-  add-tag e = rw (← f, e)
-
-  pub add-anchor : k ≡ 0x02 → withAnchor c l ≡ addTo (recordAt deck c) c l
-  unfolding recordAt recordOf addTo
-  add-anchor e = rw (← f, e)
-
-  pub add-origin : k ≡ 0x03 → withOrigin c l ≡ addTo (recordAt deck c) c l
-  unfolding recordAt recordOf addTo
-  add-origin e = rw (← f, e)
-
-  pub add-heads : k ≡ 0x04 → moreHeads c l ≡ addTo (recordAt deck c) c l
-  unfolding recordAt recordOf addTo
-  add-heads e = rw (← f, e)
-
-  pub add-remark : k ≡ 0x05 → withRemark c l ≡ addTo (recordAt deck c) c l
-  unfolding recordAt recordOf addTo
-  add-remark e = rw (← f, e)
-
-  pub add-foots : k ≡ 0x06 → moreFoots c l ≡ addTo (recordAt deck c) c l
-  unfolding recordAt recordOf addTo
-  add-foots e = rw (← f, e)
-
-  pub add-raw : k ≡ 0x07 → withRaw c l ≡ addTo (recordAt deck c) c l
-  unfolding recordAt recordOf addTo
-  add-raw e = rw (← f, e)
-
-  pub add-directives : k ≡ 0x08 → moreDirectives c l ≡ addTo (recordAt deck c) c l
-  unfolding recordAt recordOf addTo
-  add-directives e = rw (← f, e)
-
-  pub add-lines : k ≡ 0x09 → withLines (linesAt deck (c .at + 1)) l ≡ addTo (recordAt deck c) c l
-  unfolding recordAt recordOf addTo
-  add-lines e = rw (← f, e)
-
   -- a record of any other kind adds nothing
   pub add-none : (k ≡ 0x01 → ⊥) → (k ≡ 0x02 → ⊥) → (k ≡ 0x03 → ⊥) → (k ≡ 0x04 → ⊥) → (k ≡ 0x05 → ⊥) → (k ≡ 0x06 → ⊥) → (k ≡ 0x07 → ⊥) → (k ≡ 0x08 → ⊥) → (k ≡ 0x09 → ⊥) → l ≡ addTo (recordAt deck c) c l
   unfolding recordAt recordOf addTo
@@ -159,18 +123,6 @@ module _ (deck : Bytes) where
 -- ---- its comments
 
 module _ (deck : Bytes) (c : Cursor) (k : ℕ) (f : k ≡ kindAt deck c) where
-  pub comment-head : k ≡ 0x04 → true ≡ isComment (recordAt deck c)
-  unfolding recordAt recordOf isComment
-  comment-head e = rw (← f, e)
-
-  pub comment-inline : k ≡ 0x05 → true ≡ isComment (recordAt deck c)
-  unfolding recordAt recordOf isComment
-  comment-inline e = rw (← f, e)
-
-  pub comment-foot : k ≡ 0x06 → true ≡ isComment (recordAt deck c)
-  unfolding recordAt recordOf isComment
-  comment-foot e = rw (← f, e)
-
   -- only kinds 04, 05 and 06 are comments
   pub comment-other : (k ≡ 0x04 → ⊥) → (k ≡ 0x05 → ⊥) → (k ≡ 0x06 → ⊥) → false ≡ isComment (recordAt deck c)
   unfolding recordAt recordOf isComment

@@ -1,19 +1,17 @@
 -- Laws of the parts of lines, for the functions that write them.
 -- Assumes nothing.
-use mathlib.Core.Path.{_≡_, refl, sym, ap, _∙_}
-use Prim.Native.Nat.{ℕ, zero, suc, _+_, _-_, _<_, _≤_, _^_}
+use mathlib.Core.Path.{_≡_, sym, ap, _∙_}
+use Prim.Native.Nat.{ℕ, zero, suc, _+_, _-_, _<_, _^_}
 use native.Mathlib.Omega.{arith}
-use mathlib.Core.Bool.{Bool, true, false, not, true≢false, _||_}
+use mathlib.Core.Bool.{Bool, false, true≢false, _||_}
 use mathlib.Core.List.{[], _∷_, _++_}
 use mathlib.Core.Option.{Option, none, some}
-use lib.Dec.{eqb}
 use borrow.Author.Tests.{eq-eqb, ne-eqb}
-use Rattle.definition.specs.Base.{Bytes, if_then_else_, isSome}
+use Rattle.definition.specs.Base.{Bytes, isSome}
 use Rattle.definition.specs.Ascii.{SP}
 use Rattle.definition.specs.Records.{textAt, includeAt, trailerAt}
-use Rattle.definition.specs.Tree.{Kept}
 use Rattle.definition.specs.Deck.{words, inlineOf, sourceOf}
-use Rattle.definition.specs.Pen.{Script, put, comment, directive, _>>_, nothing}
+use Rattle.definition.specs.Pen.{Script, put, comment, directive, nothing}
 use Rattle.definition.specs.Walk.{prop, directiveOf}
 use Rattle.definition.specs.declared.Cursor.{Cursor}
 use Rattle.definition.specs.declared.Include.{Include}
@@ -26,7 +24,7 @@ use Rattle.node.specs.declared.Origin.{Origin}
 use Rattle.node.specs.declared.Remark.{Remark}
 use Rattle.node.specs.declared.Run.{Run}
 use Rattle.node.specs.Total.{heldOf, originOf, remarkOf, keptOf, broughtOf}
-use Rattle.pen.specs.Pen.{Pen, pen, put1, puts, and-then, noteOf, noted, ink}
+use Rattle.pen.specs.Pen.{Pen, put1, puts, and-then, noteOf, noted, ink}
 use Rattle.parts.specs.declared.Entries.{Entries}
 use Rattle.parts.specs.declared.Entries.the-variants.{Heads, Over, Under, Foots, Directives}
 use Rattle.parts.specs.Draws.{Draws, both, stays}

@@ -1,5 +1,6 @@
 -- Stretches of the walk's lines that are written together.
 use Prim.Native.Nat.{ℕ}
+use mathlib.Core.Bool.{Bool, true, false}
 use mathlib.Core.List.{[], _∷_}
 use mathlib.Core.Option.{Option}
 use Rattle.definition.specs.Base.{Bytes, if_then_else_, isSome}
@@ -32,12 +33,13 @@ breaks p m b = propsCompact b >> comment p m >> newline
 unfoldable pub closes : ℕ → Option Inline → Script
 closes p m = comment p m >> endLine
 
--- what stands before an item's dash, and before a key
-unfoldable pub beforeItem : Kept → ℕ → Script
-beforeItem a i = blanks a >> aboveDash a i >> indent i
+-- what stands before a pair's key or an item's dash: blank lines, head comments, the indent
+unfoldable pub headsOver : Bool → Kept → ℕ → Script
+headsOver true a i = heads a i
+headsOver false a i = aboveDash a i
 
-unfoldable pub beforeKey : Kept → ℕ → Script
-beforeKey a i = blanks a >> heads a i >> indent i
+unfoldable pub before : Bool → Kept → ℕ → Script
+before pairs a i = blanks a >> headsOver pairs a i >> indent i
 
 -- what stands below its introducer, up to its content
 unfoldable pub belowOpen : ℕ → Kept → Brought → ℕ → Script

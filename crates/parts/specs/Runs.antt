@@ -2,13 +2,13 @@
 use mathlib.Core.Path.{_≡_, refl, sym, ap, _∙_}
 use Prim.Native.Nat.{ℕ, zero, suc, _+_, _≤_}
 use mathlib.Core.Bool.{Bool, true, false, not, _||_}
-use mathlib.Core.List.{[], _∷_}
-use mathlib.Core.Option.{Option, none, some}
+use mathlib.Core.List.{_∷_}
+use mathlib.Core.Option.{none, some}
 use lib.Dec.{eqb}
 use Rattle.definition.specs.Base.{Bytes, if_then_else_, isSome}
 use Rattle.definition.specs.Ascii.{'%'}
 use Rattle.definition.specs.Records.{textAt, headingAt}
-use Rattle.definition.specs.Deck.{isBelow, headOf, words}
+use Rattle.definition.specs.Deck.{headOf, words}
 use Rattle.definition.specs.Tree.{Head, Kept}
 use Rattle.definition.specs.Pen.{directive, Script, put, _>>_, nothing, newline}
 use Rattle.definition.specs.Walk.{commentLine, commentLines, headsThat, heads, headsAbove, headsBelow, foots, props, hasProps}

@@ -19,7 +19,7 @@ ghost use Rattle.node.specs.Total.{heldOf, originOf, remarkOf, keptOf, broughtO
 ghost use Rattle.pen.specs.Pen.{pen};
 ghost use Rattle.parts.specs.Draws.{Draws};
 ghost use Rattle.parts.specs.Runs.{stride, percent, entry, entries, runOf, repeated, Short, hasHeld};
-ghost use Rattle.parts.specs.Lines.{propsBy, propsOf, tagFirst, directed, breaks, closes, beforeItem, beforeKey, belowOpen, colonOpen, dashOpen};
+ghost use Rattle.parts.specs.Lines.{propsBy, propsOf, tagFirst, directed, breaks, closes, headsOver, before, belowOpen, colonOpen, dashOpen};
 
 // Records that repeat: head comments, those of them over or under their node's introducer alone, foot comments, directives.
 pub enum Entries {
@@ -188,7 +188,8 @@ fn run_of(lead: Lead, e: Entries) -> Run
     }
 }
 
-// `emit_head`, `emit_foot`, the directives: the records of a kind of one node.
+// `emit_head`, `emit_foot`, the directives: the records of a kind of one node. Most nodes have none: that is tested before the writer is
+// handed on.
 pub fn put_repeated(
     w: Writer,
     deck: &[u8],
@@ -201,10 +202,14 @@ pub fn put_repeated(
     requires { ⌜ (length (now out) < 2 ^ 62) × Short lead ⌝ }
     ensures { λ r. ⌜ Draws (repeated e (keptOf (now (deck .entry)) (now (pool .entry)) lead) indent) (pen w (now (out .entry))) (pen r (now (out .exit))) ⌝ }
 {
-    put_run(w, deck, pool, out, e, indent, run_of(lead, e))
+    let run = run_of(lead, e);
+    if run.count == 0 {
+        return w;
+    }
+    put_run(w, deck, pool, out, e, indent, run)
 }
 
-// `emit_head`. Most nodes have no head comments: that is tested before the writer is handed on.
+// `emit_head`: the same of head comments alone. With two callers `put_run` is not made a part of either, and the tests are made where these are called.
 fn put_heads(
     w: Writer,
     deck: &[u8],
@@ -219,7 +224,7 @@ fn put_heads(
     if lead.heads.count == 0 {
         return w;
     }
-    put_repeated(w, deck, pool, out, lead, Entries::Heads, indent)
+    put_run(w, deck, pool, out, Entries::Heads, indent, lead.heads)
 }
 
 // A mark of the layout record.
@@ -331,7 +336,7 @@ pub fn put_props_compact(w: Writer, deck: &[u8], pool: &[u8], out: &mut [u8], le
     requires { ⌜ length (now out) < 2 ^ 62 ⌝ }
     ensures { λ r. ⌜ Draws (propsCompact (broughtOf (now (deck .entry)) (now (pool .entry)) lead)) (pen w (now (out .entry))) (pen r (now (out .exit))) ⌝ }
 {
-    if has_props(lead) {
+    if is_either(lead.tag, lead.anchor) {
         return put_both(w, deck, pool, out, b" ", lead.tag, b" &", lead.anchor, b"");
     }
     w
@@ -345,13 +350,6 @@ pub fn is_either(tag: Held, anchor: Held) -> bool
         return true;
     }
     anchor.at != 0
-}
-
-// A node has a tag or an anchor.
-pub fn has_props(lead: Lead) -> bool
-    ensures { λ r. ⌜ r ≡ hasHeld (lead .tag) || hasHeld (lead .anchor) ⌝ }
-{
-    is_either(lead.tag, lead.anchor)
 }
 
 // The tag, and a space where an anchor follows.
@@ -371,7 +369,7 @@ pub fn put_props_line(w: Writer, deck: &[u8], pool: &[u8], out: &mut [u8], lead:
     requires { ⌜ length (now out) < 2 ^ 62 ⌝ }
     ensures { λ r. ⌜ Draws (propsLine (broughtOf (now (deck .entry)) (now (pool .entry)) lead)) (pen w (now (out .entry))) (pen r (now (out .exit))) ⌝ }
 {
-    if has_props(lead) {
+    if is_either(lead.tag, lead.anchor) {
         let w1 = put_tag_first(w, deck, pool, out, lead);
         let w2 = put_prop(w1, deck, pool, out, b"&", lead.anchor, b"");
         return w2.byte(out, b'\n');
@@ -467,39 +465,41 @@ pub fn put_close(
     w1.end_line(out)
 }
 
-// What stands before an item's dash: blank lines, head comments, the indent.
-pub fn put_before_item(
+// The head comments over a pair's key, or over an item's dash.
+fn put_over(
     w: Writer,
     deck: &[u8],
     pool: &[u8],
     out: &mut [u8],
+    pairs: bool,
     lead: Lead,
     i: usize,
 ) -> Writer
     requires { ⌜ (length (now out) < 2 ^ 62) × Short lead ⌝ }
-    ensures { λ r. ⌜ Draws (beforeItem (keptOf (now (deck .entry)) (now (pool .entry)) lead) i) (pen w (now (out .entry))) (pen r (now (out .exit))) ⌝ }
+    ensures { λ r. ⌜ Draws (headsOver pairs (keptOf (now (deck .entry)) (now (pool .entry)) lead) i) (pen w (now (out .entry))) (pen r (now (out .exit))) ⌝ }
 {
-    let lines = lead.lines;
-    let w1 = w.again(out, b'\n', lines.blank);
-    let w2 = put_above_dash(w1, deck, pool, out, lead, i);
-    w2.spaces(out, i)
+    if pairs {
+        return put_heads(w, deck, pool, out, lead, i);
+    }
+    put_above_dash(w, deck, pool, out, lead, i)
 }
 
-// What stands before a key: blank lines, head comments, the indent.
-pub fn put_before_key(
+// What stands before a pair's key or an item's dash: blank lines, head comments, the indent.
+pub fn put_before(
     w: Writer,
     deck: &[u8],
     pool: &[u8],
     out: &mut [u8],
+    pairs: bool,
     lead: Lead,
     i: usize,
 ) -> Writer
     requires { ⌜ (length (now out) < 2 ^ 62) × Short lead ⌝ }
-    ensures { λ r. ⌜ Draws (beforeKey (keptOf (now (deck .entry)) (now (pool .entry)) lead) i) (pen w (now (out .entry))) (pen r (now (out .exit))) ⌝ }
+    ensures { λ r. ⌜ Draws (before pairs (keptOf (now (deck .entry)) (now (pool .entry)) lead) i) (pen w (now (out .entry))) (pen r (now (out .exit))) ⌝ }
 {
     let lines = lead.lines;
     let w1 = w.again(out, b'\n', lines.blank);
-    let w2 = put_heads(w1, deck, pool, out, lead, i);
+    let w2 = put_over(w1, deck, pool, out, pairs, lead, i);
     w2.spaces(out, i)
 }
 

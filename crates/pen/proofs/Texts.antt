@@ -11,7 +11,7 @@ use borrow.Author.Tests.{ne-eqb, leb-true}
 use mathlib.Core.Bool.{true}
 use Rattle.definition.specs.Base.{Bytes, if_then_else_}
 use Rattle.pen.specs.declared.Writer.{Writer}
-use Rattle.pen.specs.Pen.{Pen, pen, columnAfter, columnOver, put1, puts}
+use Rattle.pen.specs.Pen.{pen, columnAfter, columnOver, put1, puts}
 
 pub enough : (len n room : ℕ) → (n ≡ 0 → ⊥) → len ≤ room → leb n (room - len) ≡ true → (0 < n) × (len + n ≤ room)
 enough len zero room n h e = absurd (n refl)

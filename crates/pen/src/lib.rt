@@ -14,16 +14,17 @@ ghost use Rattle.pen.specs.Pen.{pen, put1, puts, columnAfter, columnOver
 // past the room. `column`: the columns since the last line break, at most the room and two; it is kept only where `tracks` is not 0.
 // `flow`: how many flow collections are open. `key`: not 0 inside an inline key. `inline`: one more than the place of the node whose inline
 // comment was written last, 0 at the start. `raw`: one more than where the last raw text ended without a line break, 0 at the start.
+// Fields that most functions change and fields that they hand on take turns: in another order the compiler copies more (docs/DECISIONS.md).
 pub struct Writer {
     pub len: usize,
-    pub last: usize,
-    pub under: usize,
-    pub column: usize,
-    pub tracks: usize,
     pub flow: usize,
+    pub last: usize,
     pub key: usize,
+    pub under: usize,
     pub inline: usize,
+    pub column: usize,
     pub raw: usize,
+    pub tracks: usize,
 }
 
 fn wide(b: u8) -> usize

@@ -1,5 +1,5 @@
 -- The call from end to end: planned, the list filled, settled, and the list filled again where it is to be zeroed. It is the definition's.
-use mathlib.Core.Path.{_≡_, refl, sym, ap, subst, _∙_}
+use mathlib.Core.Path.{_≡_, refl, sym, ap, _∙_}
 use Prim.Native.Nat.{ℕ, _+_, _<_, _≤_}
 use native.Mathlib.Omega.{arith}
 use mathlib.Core.Bool.{Bool, true, false}
@@ -10,7 +10,7 @@ use borrow.Author.Tests.{lt-ltb, le-ltb, ltb-true, ltb-false}
 use Rattle.definition.specs.Base.{Bytes, if_then_else_}
 use Rattle.definition.specs.Settings.{plainSettings}
 use Rattle.definition.specs.Change.{Written, collect}
-use Rattle.definition.specs.Calls.{Lent, Outcome, noChange, noRoom, over, answered, handed, entries, bytesOfAll, writeChanged}
+use Rattle.definition.specs.Calls.{Lent, Outcome, noChange, noRoom, answered, handed, entries, bytesOfAll, writeChanged}
 use Rattle.definition.specs.declared.Change.{Change}
 use Rattle.node.specs.Total.{treesOf}
 use Rattle.judge.specs.declared.Verdict.{Verdict}
@@ -18,7 +18,6 @@ use Rattle.judge.specs.declared.Verdict.the-variants as verdict
 use Rattle.told.specs.Outcome.{changed-judged, changed-told}
 use Rattle.answers.specs.Answer.{outcomeOf, refusal, refusal-is}
 use Rattle.answers.specs.Admitted.{Refuses, Admits, Says, admitOf, said}
-use Rattle.files.specs.declared.Walk.{Walk}
 use Rattle.files.specs.Run.{Run, runOf, run-zeros, run-length, files-fit, files-over}
 use Rattle.files.specs.Stored.{stored, length-entries, stored-entries, stored-zeros}
 use Rattle.changes.specs.Filled.{Filled, started, filled, filled-is}

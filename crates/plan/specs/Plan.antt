@@ -1,7 +1,7 @@
 -- What is decided before the list is filled, and what after: as equations, by which the call is the definition's.
 use mathlib.Core.Path.{_≡_}
 use Prim.Native.Nat.{ℕ, _≤_}
-use mathlib.Core.Bool.{Bool, true, false, _&&_, _||_}
+use mathlib.Core.Bool.{Bool, false, _&&_, _||_}
 use lib.Dec.{eqb, ltb}
 use lib.ListN.{length, replicate}
 use Rattle.definition.specs.Base.{Bytes, if_then_else_}

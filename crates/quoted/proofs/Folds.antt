@@ -7,11 +7,11 @@ use mathlib.Core.Bool.{Bool, true, false, not}
 use mathlib.Core.List.{[], _∷_, _++_}
 use lib.ListN.{length, getD, drop, take, drop-of-length-le}
 use lib.Seq.{drop-cons, drop-drop}
-use lib.Dec.{ltb, eqb}
+use lib.Dec.{eqb}
 use borrow.Author.Tests.{eq-eqb, ne-eqb, lt-ltb, le-ltb}
-use Rattle.pen.specs.Pen.{Pen, pen, puts, put1, puts-append}
+use Rattle.pen.specs.Pen.{Pen, puts, put1, puts-append}
 use Rattle.pen.specs.Runs.{Run, parted, run-length}
-use Rattle.definition.specs.Base.{Bytes, if_then_else_, spaces}
+use Rattle.definition.specs.Base.{Bytes, spaces}
 use Rattle.definition.specs.Fold.{Folding, size, breakable, breakableIn}
 use Rattle.laws.specs.Tests.{Every, more}
 use Rattle.laws.specs.Pieces.{Quote}

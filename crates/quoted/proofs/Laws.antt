@@ -8,17 +8,17 @@ use mathlib.Core.List.{[], _∷_, _++_}
 use lib.ListN.{length, getD, drop, take}
 use lib.Seq.{drop-cons, drop-drop, getD-drop}
 use lib.Dec.{ltb, leb, eqb}
-use borrow.Author.Tests.{eqb-true, eq-eqb, ne-eqb, ltb-true, lt-ltb, le-ltb, le-leb, lt-leb, leb-true, not-true}
+use borrow.Author.Tests.{eqb-true, eq-eqb, ne-eqb, ltb-true, lt-ltb, le-ltb, le-leb, not-true}
 use Rattle.pen.specs.Pen.{Pen, put1, puts, puts-append}
 use Rattle.pen.specs.Runs.{Run, parted}
 use Rattle.definition.specs.Base.{Bytes, if_then_else_, within}
 use Rattle.definition.specs.Char.{nonPrintable}
 use Rattle.definition.specs.Quote.{digit, hex2, hex4, escaped}
-use Rattle.laws.specs.Tests.{is-within, below-it, above-it, by-test, Every, none, more}
+use Rattle.laws.specs.Tests.{below-it, by-test, Every, none, more}
 use Rattle.laws.specs.Numbers.{not-c1, not-non, non-is}
 use Rattle.laws.specs.Pieces.{Quote, isC1, isNon, doublePiece, doubleMore, singlePiece, quoteBy, body}
 use Rattle.laws.specs.Computed.{below, all, apply, equal, equal-is}
-use Rattle.quoted.specs.Piece.{spell, beside, letterOf, sound, Written, Stands, Own}
+use Rattle.quoted.specs.Piece.{spell, beside, letterOf, Written, Stands, Own}
 use Rattle.quoted.specs.declared.Piece.{Piece}
 use Rattle.quoted.specs.declared.Piece.the-variants.{Plain, Pair, Hex, Latin, Wide}
 

@@ -516,7 +516,7 @@ pub fn will_fold(settings: Settings, key: bool) -> bool
 }
 
 // A text in quotes, not folded.
-pub fn put_quoted(w: Writer, out: &mut [u8], t: &[u8], single: bool) -> Writer
+fn put_quoted(w: Writer, out: &mut [u8], t: &[u8], single: bool) -> Writer
     requires { ⌜ (length (now t) ≤ 65536) × (length (now out) < 2 ^ 62) ⌝ }
     ensures { λ r. ⌜ pen r (now (out .exit)) ≡ puts (quotedAt single (now (t .entry))) (pen w (now (out .entry))) ⌝ }
 {

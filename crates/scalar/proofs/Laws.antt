@@ -1,14 +1,14 @@
 -- The tests of a text by one test at each place, and a scalar from its parts.
-use Prim.Native.Nat.{ℕ, zero, suc, _+_, _≤_, _<_}
+use Prim.Native.Nat.{ℕ, suc, _+_, _≤_, _<_}
 use native.Mathlib.Omega.{arith}
 use native.Mathlib.Numerals.{add-one}
 use mathlib.Core.Path.{_≡_, refl, sym, ap, _∙_}
 use mathlib.Core.Bool.{Bool, true, false, false≢true, not, _&&_, _||_}
-use mathlib.Core.List.{[], _∷_, _++_}
+use mathlib.Core.List.{[], _∷_}
 use lib.ListN.{length, getD, drop}
 use lib.Seq.{drop-cons, getD-drop}
 use lib.Dec.{eqb, ltb}
-use borrow.Author.Tests.{ne-eqb, le-ltb, lt-ltb, ltb-true, ltb-false}
+use borrow.Author.Tests.{ne-eqb, le-ltb, lt-ltb}
 use Rattle.definition.specs.Base.{Bytes, if_then_else_, any, has, within}
 use Rattle.definition.specs.Ascii.{':', SP}
 use Rattle.definition.specs.Char.{nonPrintable}

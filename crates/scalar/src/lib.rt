@@ -23,7 +23,6 @@ use quoted::at_or;
 use quoted::has_breakable;
 use quoted::is_c1;
 use quoted::is_non;
-use quoted::put_quoted;
 use quoted::put_styled;
 use quoted::will_fold;
 
@@ -201,15 +200,23 @@ fn put_plain(
     w.text(out, t)
 }
 
-// A literal or folded scalar: in flow it is double quoted, and never folded.
-fn put_block(w: Writer, out: &mut [u8], flow: bool, t: &[u8], marker: u8, indent: usize) -> Writer
-    requires { ⌜ (length (now t) ≤ 65536) × (length (now out) < 2 ^ 62) ⌝ }
+// A literal or folded scalar: in flow it is double quoted as in a key, so never folded.
+fn put_block(
+    w: Writer,
+    out: &mut [u8],
+    settings: Settings,
+    flow: bool,
+    t: &[u8],
+    marker: u8,
+    indent: usize,
+) -> Writer
+    requires { ⌜ (length (now t) ≤ 65536) × (w .column < 2 ^ 63) × (length (now out) < 2 ^ 62) ⌝ }
     ensures { λ r. ⌜ pen r (now (out .exit)) ≡ puts
         (if flow then quotedAt false (now (t .entry)) else blockHeader marker (now (t .entry)) ++ blockBody indent (now (t .entry)))
         (pen w (now (out .entry))) ⌝ }
 {
     if flow {
-        return put_quoted(w, out, t, false);
+        return put_styled(w, out, settings, true, false, t);
     }
     let w = put_header(w, out, t, marker);
     put_block_body(w, out, t, indent)
@@ -233,8 +240,8 @@ pub fn put_scalar(
         Style::Plain => put_plain(w, out, settings, flow, key, t),
         Style::Single => put_styled(w, out, settings, key, true, t),
         Style::Double => put_styled(w, out, settings, key, false, t),
-        Style::Literal => put_block(w, out, flow, t, b'|', indent),
-        Style::Folded => put_block(w, out, flow, t, b'>', indent),
+        Style::Literal => put_block(w, out, settings, flow, t, b'|', indent),
+        Style::Folded => put_block(w, out, settings, flow, t, b'>', indent),
     }
 }
 

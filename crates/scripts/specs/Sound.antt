@@ -2,14 +2,14 @@
 use mathlib.Core.Path.{_≡_}
 use Prim.{tt}
 use Prim.Native.Nat.{ℕ, _+_}
-use mathlib.Core.Bool.{Bool, true, false, not, _&&_, _||_}
+use mathlib.Core.Bool.{Bool, true, false, not, _&&_}
 use mathlib.Core.List.{List, [], _∷_}
 use mathlib.Core.Option.{Option, none, some}
 use Rattle.definition.specs.Base.{Bytes, if_then_else_, isNil, isSome}
 use Rattle.definition.specs.Settings.{stepOf}
 use Rattle.definition.specs.Utf8.{wellFormed}
 use Rattle.definition.specs.Tree.{Kept, Brought, Node, Kind, Nodes, Pairs, node, null, scalar, alias, sequence, mapping, end, item, close, pair, kept, brought}
-use Rattle.definition.specs.Pen.{Script, _>>_, nothing, newline, indent, sign}
+use Rattle.definition.specs.Pen.{Script, nothing, newline, indent, sign}
 use Rattle.definition.specs.Walk
 use Rattle.definition.specs.Document
 use Rattle.definition.specs.declared.Settings.{Settings}

@@ -1,43 +1,23 @@
 -- What a node's own record is, by its kind; and the node that is made of a front.
 use mathlib.Core.Path.{_≡_, refl, sym}
-use Prim.Native.Nat.{ℕ, _+_, _≤_}
+use Prim.Native.Nat.{ℕ, _≤_}
 use lib.ListN.{length}
 use lib.Dec.{eqb}
 use borrow.Author.Tests.{ne-eqb}
 use Rattle.definition.specs.Base.{Bytes, if_then_else_}
-use Rattle.definition.specs.Records.{kindAt, recordOf, recordAt, textAt, wordsAt, groupAt}
+use Rattle.definition.specs.Records.{kindAt, recordOf, recordAt}
 use Rattle.definition.specs.declared.Cursor.{Cursor}
-use Rattle.definition.specs.declared.Group.{Group}
 use Rattle.definition.specs.declared.Record.{Record}
-use Rattle.definition.specs.declared.Text.{Text}
-use Rattle.definition.specs.declared.Words.{Words}
 use Rattle.deck.specs.Kids.{either}
 use Rattle.deck.specs.Next.{nextOf}
 use Rattle.node.specs.declared.Front.{Front}
 use Rattle.node.specs.Head.{frontOf, headAt}
 use Rattle.node.specs.Fuel.{head-at-onward, place-within}
 use Rattle.spot.specs.declared.Body.{Body}
-use Rattle.spot.specs.declared.Body.the-variants.{Null, Scalar, Alias, Sequence, Mapping}
-use Rattle.spot.specs.declared.Spot.{Spot}
+use Rattle.spot.specs.declared.Body.the-variants.{Null}
 use Rattle.spot.specs.Spot.{bodyOf, spotOf, spotAt}
 
 module _ (deck : Bytes) (c : Cursor) (k : ℕ) (f : k ≡ kindAt deck c) where
-  pub of-scalar : (w : Words) → w ≡ wordsAt deck (c .at + 1) → k ≡ 0x21 → Scalar w ≡ bodyOf (recordAt deck c)
-  unfolding recordAt recordOf bodyOf
-  of-scalar w q e = rw (← f, e, q)
-
-  pub of-alias : (t : Text) → t ≡ textAt deck (c .at + 1) → k ≡ 0x22 → Alias t ≡ bodyOf (recordAt deck c)
-  unfolding recordAt recordOf bodyOf
-  of-alias t q e = rw (← f, e, q)
-
-  pub of-sequence : (g : Group) → g ≡ groupAt deck (c .at + 1) → k ≡ 0x23 → Sequence g ≡ bodyOf (recordAt deck c)
-  unfolding recordAt recordOf bodyOf
-  of-sequence g q e = rw (← f, e, q)
-
-  pub of-mapping : (g : Group) → g ≡ groupAt deck (c .at + 1) → k ≡ 0x24 → Mapping g ≡ bodyOf (recordAt deck c)
-  unfolding recordAt recordOf bodyOf
-  of-mapping g q e = rw (← f, e, q)
-
   -- every other kind is a null
   pub of-null : (k ≡ 0x21 → ⊥) → (k ≡ 0x22 → ⊥) → (k ≡ 0x23 → ⊥) → (k ≡ 0x24 → ⊥) → Null ≡ bodyOf (recordAt deck c)
   unfolding recordAt recordOf bodyOf

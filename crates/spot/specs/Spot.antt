@@ -1,7 +1,6 @@
 -- A node by what the emitter takes of it. The tree at a cursor is such a node, with the trees at its children's cursors.
 use mathlib.Core.Path.{_≡_, refl, ap, _∙_}
 use Prim.Native.Nat.{ℕ, _≤_}
-use mathlib.Core.Bool.{Bool, true, false}
 use lib.ListN.{length}
 use Rattle.definition.specs.Base.{Bytes}
 use Rattle.definition.specs.Tree.{Kept, Brought, Node, Kind, node, null, scalar, alias, sequence, mapping}
@@ -15,6 +14,14 @@ use Rattle.node.specs.Fuel.{tree-is}
 use Rattle.spot.specs.declared.Body.{Body}
 use Rattle.spot.specs.declared.Body.the-variants as body
 use Rattle.spot.specs.declared.Spot.{Spot}
+
+-- a number for each case
+unfoldable pub caseOf : Body → ℕ
+caseOf body.Null = 0
+caseOf (body.Scalar w) = 1
+caseOf (body.Alias t) = 2
+caseOf (body.Sequence g) = 3
+caseOf (body.Mapping g) = 4
 
 unfoldable pub bodyOf : Record → Body
 bodyOf (is.Tag t) = body.Null

@@ -8,7 +8,7 @@ ghost use mathlib.Core.Path.{_≡_};
 ghost use Prim.Native.Nat.{_≤_};
 ghost use lib.ListN.{length};
 ghost use Rattle.definition.specs.Records.{recordAt};
-ghost use Rattle.spot.specs.Spot.{bodyOf, spotAt};
+ghost use Rattle.spot.specs.Spot.{bodyOf, caseOf, spotAt};
 
 pub enum Body {
     Null,
@@ -16,6 +16,19 @@ pub enum Body {
     Alias(Text),
     Sequence(Group),
     Mapping(Group),
+}
+
+// A number for each case: 0 a null, 1 a scalar, 2 an alias, 3 a sequence, 4 a mapping.
+pub fn case_of(body: Body) -> usize
+    ensures { λ r. ⌜ r ≡ caseOf body ⌝ }
+{
+    match body {
+        Body::Null => 0,
+        Body::Scalar(_) => 1,
+        Body::Alias(_) => 2,
+        Body::Sequence(_) => 3,
+        Body::Mapping(_) => 4,
+    }
 }
 
 pub struct Spot {

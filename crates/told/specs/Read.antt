@@ -12,7 +12,7 @@ use borrow.Author.Tests.{eqb-true}
 use Rattle.definition.specs.Base.{Bytes, if_then_else_}
 use Rattle.definition.specs.Utf8.{wellFormed}
 use Rattle.definition.specs.Records.{kindAt, recordAt}
-use Rattle.definition.specs.Tree.{Kept, Brought, Node, Nodes, Pairs}
+use Rattle.definition.specs.Tree.{Kept, Brought, Node}
 use Rattle.definition.specs.Document.{oneDocument, allDocuments}
 use Rattle.definition.specs.Change.{boundariesAll}
 use Rattle.definition.specs.Deck

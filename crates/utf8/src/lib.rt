@@ -4,7 +4,7 @@ ghost use mathlib.Core.Bool.{true, false};
 ghost use Prim.Native.Nat.{_+_, _*_, _<_, _≤_};
 ghost use lib.ListN.{length, drop, take};
 ghost use Rattle.definition.specs.Utf8.{isFirst, due, low, high, wellFormed};
-ghost use Rattle.utf8.specs.Chars.{more, charLen, leadingOnes, boundary};
+ghost use Rattle.utf8.specs.Chars.{more, charLen, leadingOnes, most, boundary};
 ghost use Rattle.utf8.specs.Runs.{RunEnds, nextStart, Runs};
 
 // The number of leading ones of a byte: the leading zeros of its complement.
@@ -109,8 +109,24 @@ pub fn char_len(s: &[u8], at: usize) -> usize
     0
 }
 
-// Whether a text is whole characters.
-pub fn well_formed(s: &[u8]) -> bool
+// The greatest byte of a text, 0 where it has none. The loop goes on to the end, so that the compiler takes many bytes at once.
+fn greatest(s: &[u8]) -> u8
+    ensures { λ r. ⌜ r ≡ most (now (s .entry)) ⌝ }
+{
+    let mut g = 0;
+    let mut i = 0;
+    while i < s.len() {
+        let b = s[i];
+        if g < b {
+            g = b;
+        }
+        i += 1;
+    }
+    g
+}
+
+// Whether a text is whole characters, one after another.
+fn by_characters(s: &[u8]) -> bool
     ensures { λ r. ⌜ r ≡ wellFormed (now (s .entry)) ⌝ }
 {
     let mut i = 0;
@@ -122,6 +138,16 @@ pub fn well_formed(s: &[u8]) -> bool
         i += n;
     }
     true
+}
+
+// Whether a text is whole characters: most texts are ASCII, and those are told soonest.
+pub fn well_formed(s: &[u8]) -> bool
+    ensures { λ r. ⌜ r ≡ wellFormed (now (s .entry)) ⌝ }
+{
+    if greatest(s) < 0x80 {
+        return true;
+    }
+    by_characters(s)
 }
 
 // Whether a part of a text is whole characters.

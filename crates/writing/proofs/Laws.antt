@@ -17,7 +17,6 @@ use Rattle.pen.specs.declared.Writer.{Writer}
 use Rattle.pen.specs.Pen.{Pen, pen, ink, ended}
 use Rattle.pen.specs.Shown.{fresh}
 use Rattle.scripts.specs.Keep.{ended-length-of}
-use Rattle.judge.specs.declared.Verdict.the-variants as verdict
 use Rattle.agree.specs.Accepted as agreed
 use Rattle.joints.specs.Entries.{nodeAt}
 use Rattle.told.specs.Outcome.{Settled, Small, Judged, one-judged, all-judged, one-refused-8, lent, told-fits, told-over, one-told, all-told}

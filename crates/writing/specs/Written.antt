@@ -1,6 +1,5 @@
 -- What a call that writes comes to, and the answer at its end. It is lent no list.
 use mathlib.Core.Path.{_≡_}
-use Prim.Native.Nat.{ℕ}
 use mathlib.Core.Bool.{Bool, true, false}
 use mathlib.Core.List.{[]}
 use lib.ListN.{length}

@@ -1,13 +1,10 @@
 use Prim.Native.Nat.{_-_}
-use native.Mathlib.Omega.{arith}
 use borrow.Author.Needs.{needs}
 use mathlib.Core.Path.{_≡_, refl}
 use lib.ListN.{length}
 use Rattle.answers.proofs.Zeros.{Cleared, none-cleared, one-more, cleared}
 use Rattle.answers.proofs.clear.Statement.{statement}
 use Rattle.answers.proofs.clear.Tie as tie
-use Rattle.answers.proofs.clear.Reads as reads
-use Rattle.answers.proofs.clear.Lts as lts
 
 abbrev Inv-loop : tie.InvT-loop
 Inv-loop out₀ i₀ out i = Cleared i out × (length out ≡ length out₀)

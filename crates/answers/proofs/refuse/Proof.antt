@@ -1,8 +1,6 @@
 use Rattle.answers.specs.Answer.{refusal}
 use Rattle.answers.proofs.refuse.Statement.{statement}
 use Rattle.answers.proofs.refuse.Tie as tie
-use Rattle.answers.proofs.refuse.Reads as reads
-use Rattle.answers.proofs.refuse.Lts as lts
 
 -- src/lib.rt:95:1
 returns : tie.Need-returns

@@ -3,9 +3,6 @@ use borrow.Author.Tests.{eq-eqb, ne-eqb}
 use borrow.Author.Needs.{needs}
 use Rattle.atoms.proofs.is_on_header.Statement.{statement}
 use Rattle.atoms.proofs.is_on_header.Tie as tie
-use Rattle.atoms.proofs.is_on_header.Reads as reads
-use Rattle.atoms.proofs.is_on_header.Lts as lts
-use Rattle.atoms.proofs.is_block_style.Reads as is-block-style-reads
 
 -- src/lib.rt:100:9
 returns : tie.Need-returns

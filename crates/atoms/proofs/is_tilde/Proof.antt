@@ -2,8 +2,6 @@ use Rattle.definition.specs.Settings.{isTilde}
 use borrow.Author.Needs.{needs}
 use Rattle.atoms.proofs.is_tilde.Statement.{statement}
 use Rattle.atoms.proofs.is_tilde.Tie as tie
-use Rattle.atoms.proofs.is_tilde.Reads as reads
-use Rattle.atoms.proofs.is_tilde.Lts as lts
 
 -- src/lib.rt:36:28
 enum-told : tie.Need-enum-told

@@ -1,10 +1,6 @@
 use borrow.Author.Needs.{needs}
 use Rattle.atoms.proofs.is_tilde_null.Statement.{statement}
 use Rattle.atoms.proofs.is_tilde_null.Tie as tie
-use Rattle.atoms.proofs.is_tilde_null.Reads as reads
-use Rattle.atoms.proofs.is_tilde_null.Lts as lts
-use Rattle.atoms.proofs.is_tilde.Reads as is-tilde-reads
-use Rattle.parts.proofs.is_marked.Reads as is-marked-reads
 
 -- src/lib.rt:46:8
 is-marked-requires : tie.Need-is-marked-requires

@@ -2,11 +2,6 @@ use Rattle.atoms.proofs.Laws.{starred}
 use borrow.Author.Needs.{needs}
 use Rattle.atoms.proofs.put_alias.Statement.{statement}
 use Rattle.atoms.proofs.put_alias.Tie as tie
-use Rattle.atoms.proofs.put_alias.Reads as reads
-use Rattle.atoms.proofs.put_alias.Lts as lts
-use Rattle.deck.proofs.words_of.Reads as words-of-reads
-use Rattle.pen.proofs.Writer.byte.Reads as byte-reads
-use Rattle.pen.proofs.Writer.text.Reads as text-reads
 
 -- src/lib.rt:66:9
 byte-requires : tie.Need-byte-requires

@@ -4,11 +4,6 @@ use Rattle.parts.specs.Draws.{both, of-puts}
 use borrow.Author.Needs.{needs}
 use Rattle.atoms.proofs.put_commented.Statement.{statement}
 use Rattle.atoms.proofs.put_commented.Tie as tie
-use Rattle.atoms.proofs.put_commented.Reads as reads
-use Rattle.atoms.proofs.put_commented.Lts as lts
-use Rattle.blocks.proofs.put_block_body.Reads as put-block-body-reads
-use Rattle.blocks.proofs.put_header.Reads as put-header-reads
-use Rattle.parts.proofs.put_remark.Reads as put-remark-reads
 
 -- src/lib.rt:122:9
 put-header-requires : tie.Need-put-header-requires

@@ -3,13 +3,6 @@ use Rattle.atoms.proofs.Laws.{words-short, with-comment, without-commen
 use borrow.Author.Needs.{needs}
 use Rattle.atoms.proofs.put_fresh.Statement.{statement}
 use Rattle.atoms.proofs.put_fresh.Tie as tie
-use Rattle.atoms.proofs.put_fresh.Reads as reads
-use Rattle.atoms.proofs.put_fresh.Lts as lts
-use Rattle.atoms.proofs.is_on_header.Reads as is-on-header-reads
-use Rattle.atoms.proofs.marker_of.Reads as marker-of-reads
-use Rattle.atoms.proofs.put_commented.Reads as put-commented-reads
-use Rattle.deck.proofs.words_of.Reads as words-of-reads
-use Rattle.scalar.proofs.put_scalar.Reads as put-scalar-reads
 
 -- src/lib.rt:146:9
 words-of-requires : tie.Need-words-of-requires

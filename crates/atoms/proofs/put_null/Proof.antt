@@ -3,11 +3,6 @@ use Rattle.pen.specs.Pen.{puts}
 use borrow.Author.Needs.{needs}
 use Rattle.atoms.proofs.put_null.Statement.{statement}
 use Rattle.atoms.proofs.put_null.Tie as tie
-use Rattle.atoms.proofs.put_null.Reads as reads
-use Rattle.atoms.proofs.put_null.Lts as lts
-use Rattle.atoms.proofs.is_tilde_null.Reads as is-tilde-null-reads
-use Rattle.pen.proofs.Writer.byte.Reads as byte-reads
-use Rattle.pen.proofs.Writer.text.Reads as text-reads
 
 -- src/lib.rt:56:8
 is-tilde-null-requires : tie.Need-is-tilde-null-requires

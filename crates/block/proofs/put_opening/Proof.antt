@@ -2,10 +2,6 @@ use Rattle.block.specs.Rows.{openingOf}
 use borrow.Author.Needs.{needs}
 use Rattle.block.proofs.put_opening.Statement.{statement}
 use Rattle.block.proofs.put_opening.Tie as tie
-use Rattle.block.proofs.put_opening.Reads as reads
-use Rattle.block.proofs.put_opening.Lts as lts
-use Rattle.parts.proofs.put_colon_block.Reads as put-colon-block-reads
-use Rattle.parts.proofs.put_dash_block.Reads as put-dash-block-reads
 
 -- src/lib.rt:40:9
 put-dash-block-requires : tie.Need-put-dash-block-requires

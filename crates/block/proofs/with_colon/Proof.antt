@@ -4,10 +4,6 @@ use Rattle.parts.specs.Draws.{both, of-puts, of-byte}
 use borrow.Author.Needs.{needs}
 use Rattle.block.proofs.with_colon.Statement.{statement}
 use Rattle.block.proofs.with_colon.Tie as tie
-use Rattle.block.proofs.with_colon.Reads as reads
-use Rattle.block.proofs.with_colon.Lts as lts
-use Rattle.pen.proofs.Writer.byte.Reads as byte-reads
-use Rattle.pen.proofs.Writer.spaces.Reads as spaces-reads
 
 -- src/lib.rt:64:9
 spaces-requires : tie.Need-spaces-requires

@@ -3,9 +3,6 @@ use Rattle.parts.specs.Runs.{repeated}
 use borrow.Author.Needs.{needs}
 use Rattle.block.proofs.with_foots.Statement.{statement}
 use Rattle.block.proofs.with_foots.Tie as tie
-use Rattle.block.proofs.with_foots.Reads as reads
-use Rattle.block.proofs.with_foots.Lts as lts
-use Rattle.parts.proofs.put_repeated.Reads as put-repeated-reads
 
 -- src/lib.rt:53:9
 put-repeated-requires : tie.Need-put-repeated-requires

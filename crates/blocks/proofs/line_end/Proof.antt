@@ -7,8 +7,6 @@ use native.Mathlib.Omega.{arith}
 use Rattle.pen.specs.Runs.{Run, run-start, run-on}
 use Rattle.blocks.proofs.line_end.Statement.{statement}
 use Rattle.blocks.proofs.line_end.Tie as tie
-use Rattle.blocks.proofs.line_end.Reads as reads
-use Rattle.blocks.proofs.line_end.Lts as lts
 
 abbrev Inv-loop : tie.InvT-loop
 Inv-loop t from i₀ i = Run (λ a. (a ≡ 10 → ⊥)) t from i × (from < i)

@@ -4,12 +4,6 @@ use Rattle.blocks.proofs.Laws.{line-broken, line-begun, line-on}
 use borrow.Author.Needs.{needs}
 use Rattle.blocks.proofs.line_turn.Statement.{statement}
 use Rattle.blocks.proofs.line_turn.Tie as tie
-use Rattle.blocks.proofs.line_turn.Reads as reads
-use Rattle.blocks.proofs.line_turn.Lts as lts
-use Rattle.blocks.proofs.line_end.Reads as line-end-reads
-use Rattle.pen.proofs.Writer.byte.Reads as byte-reads
-use Rattle.pen.proofs.Writer.spaces.Reads as spaces-reads
-use Rattle.pen.proofs.Writer.text.Reads as text-reads
 
 -- src/lib.rt:42:8
 shared-slice-read-if1 : tie.Need-shared-slice-read-if1

@@ -9,10 +9,6 @@ use Rattle.definition.specs.Block.{indented}
 use Rattle.pen.specs.Pen.{pen, puts}
 use Rattle.blocks.proofs.put_lines.Statement.{statement}
 use Rattle.blocks.proofs.put_lines.Tie as tie
-use Rattle.blocks.proofs.put_lines.Reads as reads
-use Rattle.blocks.proofs.put_lines.Lts as lts
-use Rattle.blocks.proofs.line_turn.Reads as line-turn-reads
-use Rattle.pen.proofs.Writer.byte.Reads as byte-reads
 
 abbrev Inv-loop : tie.InvT-loop
 Inv-loop out₀ t indent fresh g₀ out g = (puts (indented indent (g .fresh) (drop (g .at) t)) (pen (g .w) out) ≡ puts (indented indent true t) (pen (g₀ .w) out₀)) × (length out ≡ length out₀)

@@ -2,11 +2,10 @@
 use lib.ListN.{length, getD, drop, drop-of-length-le}
 use Rattle.blocks.proofs.Laws.{counted-on, counted-le}
 use Rattle.laws.specs.Trim.{counted, counted-all, trailing-le}
-use mathlib.Core.Bool.{true, false}
 use borrow.Author.Needs.{needs}
 use native.Mathlib.Omega.{arith}
-use Prim.Native.Nat.{ℕ, _+_, _*_, _≤_, _-_, max}
-use mathlib.Core.Path.{_≡_, refl, sym, ap, _∙_}
+use Prim.Native.Nat.{_≤_, _-_}
+use mathlib.Core.Path.{_≡_, _∙_}
 use Rattle.blocks.proofs.trailing_breaks.Statement.{statement}
 use Rattle.blocks.proofs.trailing_breaks.Tie as tie
 

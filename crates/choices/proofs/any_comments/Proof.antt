@@ -2,9 +2,6 @@ use Rattle.choices.proofs.Laws.{of-items}
 use borrow.Author.Needs.{needs}
 use Rattle.choices.proofs.any_comments.Statement.{statement}
 use Rattle.choices.proofs.any_comments.Tie as tie
-use Rattle.choices.proofs.any_comments.Reads as reads
-use Rattle.choices.proofs.any_comments.Lts as lts
-use Rattle.choices.proofs.some_comments.Reads as some-comments-reads
 
 -- src/lib.rt:431:5
 some-comments-requires : tie.Need-some-comments-requires

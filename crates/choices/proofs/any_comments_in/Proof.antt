@@ -2,9 +2,6 @@ use Rattle.choices.proofs.Laws.{of-pairs}
 use borrow.Author.Needs.{needs}
 use Rattle.choices.proofs.any_comments_in.Statement.{statement}
 use Rattle.choices.proofs.any_comments_in.Tie as tie
-use Rattle.choices.proofs.any_comments_in.Reads as reads
-use Rattle.choices.proofs.any_comments_in.Lts as lts
-use Rattle.choices.proofs.some_comments.Reads as some-comments-reads
 
 -- src/lib.rt:439:28
 mul-some-comments : tie.Need-mul-some-comments

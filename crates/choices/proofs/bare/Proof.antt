@@ -2,10 +2,6 @@ use Rattle.choices.specs.Choices.{bareIn}
 use borrow.Author.Needs.{needs}
 use Rattle.choices.proofs.bare.Statement.{statement}
 use Rattle.choices.proofs.bare.Tie as tie
-use Rattle.choices.proofs.bare.Reads as reads
-use Rattle.choices.proofs.bare.Lts as lts
-use Rattle.choices.proofs.is_empty_scalar.Reads as is-empty-scalar-reads
-use Rattle.choices.proofs.is_silent.Reads as is-silent-reads
 
 -- src/lib.rt:223:8
 is-empty-scalar-requires : tie.Need-is-empty-scalar-requires

@@ -2,11 +2,6 @@ use Rattle.choices.specs.Choices.{bareRootIn}
 use borrow.Author.Needs.{needs}
 use Rattle.choices.proofs.bare_root.Statement.{statement}
 use Rattle.choices.proofs.bare_root.Tie as tie
-use Rattle.choices.proofs.bare_root.Reads as reads
-use Rattle.choices.proofs.bare_root.Lts as lts
-use Rattle.choices.proofs.is_null.Reads as is-null-reads
-use Rattle.choices.proofs.is_tag_alone.Reads as is-tag-alone-reads
-use Rattle.choices.proofs.is_tagged.Reads as is-tagged-reads
 
 -- src/lib.rt:385:8
 is-null-requires : tie.Need-is-null-requires

@@ -2,9 +2,6 @@ use Rattle.choices.specs.Choices.{blockIn}
 use borrow.Author.Needs.{needs}
 use Rattle.choices.proofs.is_block.Statement.{statement}
 use Rattle.choices.proofs.is_block.Tie as tie
-use Rattle.choices.proofs.is_block.Reads as reads
-use Rattle.choices.proofs.is_block.Lts as lts
-use Rattle.choices.proofs.is_block_group.Reads as is-block-group-reads
 
 -- src/lib.rt:56:23
 enum-told : tie.Need-enum-told

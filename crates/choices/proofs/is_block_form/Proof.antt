@@ -2,8 +2,6 @@ use Rattle.definition.specs.Walk.{isBlockForm}
 use borrow.Author.Needs.{needs}
 use Rattle.choices.proofs.is_block_form.Statement.{statement}
 use Rattle.choices.proofs.is_block_form.Tie as tie
-use Rattle.choices.proofs.is_block_form.Reads as reads
-use Rattle.choices.proofs.is_block_form.Lts as lts
 
 -- src/lib.rt:36:24
 enum-told : tie.Need-enum-told

@@ -3,9 +3,6 @@ use Rattle.choices.specs.Choices.{blockGroup}
 use borrow.Author.Needs.{needs}
 use Rattle.choices.proofs.is_block_group.Statement.{statement}
 use Rattle.choices.proofs.is_block_group.Tie as tie
-use Rattle.choices.proofs.is_block_group.Reads as reads
-use Rattle.choices.proofs.is_block_group.Lts as lts
-use Rattle.choices.proofs.is_block_form.Reads as is-block-form-reads
 
 -- src/lib.rt:46:8
 is-block-form-requires : tie.Need-is-block-form-requires

@@ -2,10 +2,6 @@ use Rattle.choices.specs.Choices.{editedIn}
 use borrow.Author.Needs.{needs}
 use Rattle.choices.proofs.is_edited.Statement.{statement}
 use Rattle.choices.proofs.is_edited.Tie as tie
-use Rattle.choices.proofs.is_edited.Reads as reads
-use Rattle.choices.proofs.is_edited.Lts as lts
-use Rattle.choices.proofs.is_null.Reads as is-null-reads
-use Rattle.parts.proofs.is_marked.Reads as is-marked-reads
 
 -- src/lib.rt:201:8
 is-marked-requires : tie.Need-is-marked-requires

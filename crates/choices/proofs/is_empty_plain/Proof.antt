@@ -2,10 +2,6 @@ use Rattle.choices.proofs.Laws.{nil-length}
 use borrow.Author.Needs.{needs}
 use Rattle.choices.proofs.is_empty_plain.Statement.{statement}
 use Rattle.choices.proofs.is_empty_plain.Tie as tie
-use Rattle.choices.proofs.is_empty_plain.Reads as reads
-use Rattle.choices.proofs.is_empty_plain.Lts as lts
-use Rattle.choices.proofs.is_plain.Reads as is-plain-reads
-use Rattle.deck.proofs.words_of.Reads as words-of-reads
 
 -- src/lib.rt:104:8
 is-plain-requires : tie.Need-is-plain-requires

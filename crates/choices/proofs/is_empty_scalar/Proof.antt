@@ -2,9 +2,6 @@ use Rattle.choices.specs.Choices.{emptyIn}
 use borrow.Author.Needs.{needs}
 use Rattle.choices.proofs.is_empty_scalar.Statement.{statement}
 use Rattle.choices.proofs.is_empty_scalar.Tie as tie
-use Rattle.choices.proofs.is_empty_scalar.Reads as reads
-use Rattle.choices.proofs.is_empty_scalar.Lts as lts
-use Rattle.choices.proofs.is_empty_plain.Reads as is-empty-plain-reads
 
 -- src/lib.rt:116:23
 enum-told : tie.Need-enum-told

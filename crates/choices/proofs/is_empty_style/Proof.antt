@@ -2,8 +2,6 @@ use Rattle.definition.specs.Settings.{isEmptyStyle}
 use borrow.Author.Needs.{needs}
 use Rattle.choices.proofs.is_empty_style.Statement.{statement}
 use Rattle.choices.proofs.is_empty_style.Tie as tie
-use Rattle.choices.proofs.is_empty_style.Reads as reads
-use Rattle.choices.proofs.is_empty_style.Lts as lts
 
 -- src/lib.rt:191:28
 enum-told : tie.Need-enum-told

@@ -2,11 +2,6 @@ use Rattle.choices.specs.Choices.{explicitIn}
 use borrow.Author.Needs.{needs}
 use Rattle.choices.proofs.is_explicit.Statement.{statement}
 use Rattle.choices.proofs.is_explicit.Tie as tie
-use Rattle.choices.proofs.is_explicit.Reads as reads
-use Rattle.choices.proofs.is_explicit.Lts as lts
-use Rattle.choices.proofs.needs_explicit.Reads as needs-explicit-reads
-use Rattle.parts.proofs.has_props.Reads as has-props-reads
-use Rattle.parts.proofs.is_marked.Reads as is-marked-reads
 
 -- src/lib.rt:174:8
 needs-explicit-requires : tie.Need-needs-explicit-requires
@@ -27,13 +22,13 @@ is-marked-requires : tie.Need-is-marked-requires
 is-marked-requires c κs = search needs
 
 -- src/lib.rt:181:9
-has-props-requires : tie.Need-has-props-requires
-has-props-requires c κs = search needs
+is-either-requires : tie.Need-is-either-requires
+is-either-requires c κs = search needs
 
 -- src/lib.rt:181:9
 returns-3 : tie.Need-returns-3
 unfolding explicitIn
-returns-3 c = rw (← c .before .before .before .before .before .needs-explicit .ensures, c .before .before .before .before .if1 .left, c .before .before .before .if2 .left, ← c .before .before .is-marked .ensures, c .before .if3 .taken) (c .has-props .ensures)
+returns-3 c = rw (← c .before .before .before .before .before .needs-explicit .ensures, c .before .before .before .before .if1 .left, c .before .before .before .if2 .left, ← c .before .before .is-marked .ensures, c .before .if3 .taken) (c .is-either .ensures)
 
 -- src/lib.rt:170:1
 returns-4 : tie.Need-returns-4
@@ -48,6 +43,6 @@ is-explicit-spec =
     returns
     returns-2
     is-marked-requires
-    has-props-requires
+    is-either-requires
     returns-3
     returns-4)

@@ -1,10 +1,6 @@
 use borrow.Author.Needs.{needs}
 use Rattle.choices.proofs.is_explicit_scalar.Statement.{statement}
 use Rattle.choices.proofs.is_explicit_scalar.Tie as tie
-use Rattle.choices.proofs.is_explicit_scalar.Reads as reads
-use Rattle.choices.proofs.is_explicit_scalar.Lts as lts
-use Rattle.atoms.proofs.is_block_style.Reads as is-block-style-reads
-use Rattle.parts.proofs.is_marked.Reads as is-marked-reads
 
 -- src/lib.rt:149:8
 is-marked-requires : tie.Need-is-marked-requires

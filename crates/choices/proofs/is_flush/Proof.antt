@@ -2,9 +2,6 @@ use Rattle.choices.specs.Choices.{flushIn}
 use borrow.Author.Needs.{needs}
 use Rattle.choices.proofs.is_flush.Statement.{statement}
 use Rattle.choices.proofs.is_flush.Tie as tie
-use Rattle.choices.proofs.is_flush.Reads as reads
-use Rattle.choices.proofs.is_flush.Lts as lts
-use Rattle.choices.proofs.is_held.Reads as is-held-reads
 
 -- src/lib.rt:261:21
 is-held-requires : tie.Need-is-held-requires

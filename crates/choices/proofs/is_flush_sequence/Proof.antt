@@ -1,10 +1,6 @@
 use borrow.Author.Needs.{needs}
 use Rattle.choices.proofs.is_flush_sequence.Statement.{statement}
 use Rattle.choices.proofs.is_flush_sequence.Tie as tie
-use Rattle.choices.proofs.is_flush_sequence.Reads as reads
-use Rattle.choices.proofs.is_flush_sequence.Lts as lts
-use Rattle.choices.proofs.is_flush.Reads as is-flush-reads
-use Rattle.choices.proofs.is_sequence.Reads as is-sequence-reads
 
 -- src/lib.rt:271:8
 is-sequence-requires : tie.Need-is-sequence-requires

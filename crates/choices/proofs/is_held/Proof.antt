@@ -2,8 +2,6 @@ use mathlib.Core.Path.{refl}
 use Rattle.parts.specs.Runs.{hasHeld}
 use Rattle.choices.proofs.is_held.Statement.{statement}
 use Rattle.choices.proofs.is_held.Tie as tie
-use Rattle.choices.proofs.is_held.Reads as reads
-use Rattle.choices.proofs.is_held.Lts as lts
 
 -- src/lib.rt:240:1
 returns : tie.Need-returns

@@ -3,8 +3,6 @@ use Rattle.atoms.specs.Atoms.{on}
 use Rattle.choices.specs.Choices.{includedIn}
 use Rattle.choices.proofs.is_included.Statement.{statement}
 use Rattle.choices.proofs.is_included.Tie as tie
-use Rattle.choices.proofs.is_included.Reads as reads
-use Rattle.choices.proofs.is_included.Lts as lts
 
 -- src/lib.rt:140:1
 returns : tie.Need-returns

@@ -1,9 +1,6 @@
 use borrow.Author.Needs.{needs}
 use Rattle.choices.proofs.is_level.Statement.{statement}
 use Rattle.choices.proofs.is_level.Tie as tie
-use Rattle.choices.proofs.is_level.Reads as reads
-use Rattle.choices.proofs.is_level.Lts as lts
-use Rattle.choices.proofs.is_sequence.Reads as is-sequence-reads
 
 -- src/lib.rt:334:8
 is-sequence-requires : tie.Need-is-sequence-requires

@@ -1,66 +1,13 @@
-use Rattle.choices.specs.Choices.{sequenceIn}
-use borrow.Author.Needs.{needs}
+-- `choices::is_sequence` meets its contract.
+use Rattle.choices.proofs.Cases.{sequence-case}
 use Rattle.choices.proofs.is_sequence.Statement.{statement}
 use Rattle.choices.proofs.is_sequence.Tie as tie
-use Rattle.choices.proofs.is_sequence.Reads as reads
-use Rattle.choices.proofs.is_sequence.Lts as lts
 
--- src/lib.rt:68:23
-enum-told : tie.Need-enum-told
-enum-told c = search needs
+case-of-requires : tie.Need-case-of-requires
+case-of-requires c κs = tt
 
--- src/lib.rt:69:28
-enum-told-2 : tie.Need-enum-told-2
-enum-told-2 c = search needs
-
--- src/lib.rt:70:27
-enum-told-3 : tie.Need-enum-told-3
-enum-told-3 c = search needs
-
--- src/lib.rt:71:30
-enum-told-4 : tie.Need-enum-told-4
-enum-told-4 c = search needs
-
--- src/lib.rt:72:29
-enum-told-5 : tie.Need-enum-told-5
-enum-told-5 c = search needs
-
--- src/lib.rt:64:1
 returns : tie.Need-returns
-unfolding sequenceIn
-returns c = rw (c .enum-told .given .1)
-
--- src/lib.rt:64:1
-returns-2 : tie.Need-returns-2
-unfolding sequenceIn
-returns-2 c = rw (c .enum-told2 .given .1)
-
--- src/lib.rt:64:1
-returns-3 : tie.Need-returns-3
-unfolding sequenceIn
-returns-3 c = rw (c .enum-told3 .given .1)
-
--- src/lib.rt:64:1
-returns-4 : tie.Need-returns-4
-unfolding sequenceIn
-returns-4 c = rw (c .enum-told4 .given .1)
-
--- src/lib.rt:64:1
-returns-5 : tie.Need-returns-5
-unfolding sequenceIn
-returns-5 c = rw (c .enum-told5 .given .1)
+returns c = rw (c .case-of .ensures) (sequence-case (c .before .args .body))
 
 pub is-sequence-spec : {M : Type 1} → statement M
-is-sequence-spec =
-    tie.close
-    (tie.spec
-    enum-told
-    enum-told-2
-    enum-told-3
-    enum-told-4
-    enum-told-5
-    returns
-    returns-2
-    returns-3
-    returns-4
-    returns-5)
+is-sequence-spec = tie.close (tie.spec case-of-requires returns)

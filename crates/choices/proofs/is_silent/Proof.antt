@@ -3,10 +3,6 @@ use borrow.Author.Tests.{eq-eqb, ne-eqb}
 use borrow.Author.Needs.{needs}
 use Rattle.choices.proofs.is_silent.Statement.{statement}
 use Rattle.choices.proofs.is_silent.Tie as tie
-use Rattle.choices.proofs.is_silent.Reads as reads
-use Rattle.choices.proofs.is_silent.Lts as lts
-use Rattle.choices.proofs.is_edited.Reads as is-edited-reads
-use Rattle.choices.proofs.is_empty_style.Reads as is-empty-style-reads
 
 -- src/lib.rt:211:9
 returns : tie.Need-returns

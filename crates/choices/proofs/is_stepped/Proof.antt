@@ -1,10 +1,6 @@
 use borrow.Author.Needs.{needs}
 use Rattle.choices.proofs.is_stepped.Statement.{statement}
 use Rattle.choices.proofs.is_stepped.Tie as tie
-use Rattle.choices.proofs.is_stepped.Reads as reads
-use Rattle.choices.proofs.is_stepped.Lts as lts
-use Rattle.parts.proofs.is_either.Reads as is-either-reads
-use Rattle.choices.proofs.is_sequence.Reads as is-sequence-reads
 
 -- src/lib.rt:291:8
 is-either-requires : tie.Need-is-either-requires

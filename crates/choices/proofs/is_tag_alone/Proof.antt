@@ -3,10 +3,6 @@ use borrow.Author.Tests.{eq-eqb, ne-eqb}
 use borrow.Author.Needs.{needs}
 use Rattle.choices.proofs.is_tag_alone.Statement.{statement}
 use Rattle.choices.proofs.is_tag_alone.Tie as tie
-use Rattle.choices.proofs.is_tag_alone.Reads as reads
-use Rattle.choices.proofs.is_tag_alone.Lts as lts
-use Rattle.choices.proofs.is_empty_style.Reads as is-empty-style-reads
-use Rattle.choices.proofs.is_held.Reads as is-held-reads
 
 -- src/lib.rt:366:9
 returns : tie.Need-returns

@@ -1,10 +1,6 @@
 use borrow.Author.Needs.{needs}
 use Rattle.choices.proofs.is_tagged.Statement.{statement}
 use Rattle.choices.proofs.is_tagged.Tie as tie
-use Rattle.choices.proofs.is_tagged.Reads as reads
-use Rattle.choices.proofs.is_tagged.Lts as lts
-use Rattle.choices.proofs.is_held.Reads as is-held-reads
-use Rattle.parts.proofs.is_marked.Reads as is-marked-reads
 
 -- src/lib.rt:343:8
 is-marked-requires : tie.Need-is-marked-requires

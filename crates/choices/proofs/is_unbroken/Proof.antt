@@ -3,9 +3,6 @@ use borrow.Author.Tests.{eq-eqb, ne-eqb}
 use borrow.Author.Needs.{needs}
 use Rattle.choices.proofs.is_unbroken.Statement.{statement}
 use Rattle.choices.proofs.is_unbroken.Tie as tie
-use Rattle.choices.proofs.is_unbroken.Reads as reads
-use Rattle.choices.proofs.is_unbroken.Lts as lts
-use Rattle.parts.proofs.is_marked.Reads as is-marked-reads
 
 -- src/lib.rt:313:9
 returns : tie.Need-returns

@@ -1,10 +1,6 @@
 use borrow.Author.Needs.{needs}
 use Rattle.choices.proofs.is_under_tag.Statement.{statement}
 use Rattle.choices.proofs.is_under_tag.Tie as tie
-use Rattle.choices.proofs.is_under_tag.Reads as reads
-use Rattle.choices.proofs.is_under_tag.Lts as lts
-use Rattle.choices.proofs.is_level.Reads as is-level-reads
-use Rattle.choices.proofs.is_tagged.Reads as is-tagged-reads
 
 -- src/lib.rt:353:8
 is-tagged-requires : tie.Need-is-tagged-requires

@@ -3,10 +3,6 @@ use Rattle.choices.specs.Choices.{itemColumnIn}
 use borrow.Author.Needs.{needs}
 use Rattle.choices.proofs.item_column.Statement.{statement}
 use Rattle.choices.proofs.item_column.Tie as tie
-use Rattle.choices.proofs.item_column.Reads as reads
-use Rattle.choices.proofs.item_column.Lts as lts
-use Rattle.choices.proofs.is_stepped.Reads as is-stepped-reads
-use Rattle.choices.proofs.step_of.Reads as step-of-reads
 
 -- src/lib.rt:302:8
 is-stepped-requires : tie.Need-is-stepped-requires

@@ -2,11 +2,6 @@ use Rattle.choices.specs.Choices.{needsIn}
 use borrow.Author.Needs.{needs}
 use Rattle.choices.proofs.needs_explicit.Statement.{statement}
 use Rattle.choices.proofs.needs_explicit.Tie as tie
-use Rattle.choices.proofs.needs_explicit.Reads as reads
-use Rattle.choices.proofs.needs_explicit.Lts as lts
-use Rattle.choices.proofs.is_block_group.Reads as is-block-group-reads
-use Rattle.choices.proofs.is_explicit_scalar.Reads as is-explicit-scalar-reads
-use Rattle.parts.proofs.is_marked.Reads as is-marked-reads
 
 -- src/lib.rt:161:23
 enum-told : tie.Need-enum-told

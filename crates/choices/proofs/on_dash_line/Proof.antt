@@ -2,12 +2,6 @@ use Rattle.choices.specs.Choices.{onDashLineIn}
 use borrow.Author.Needs.{needs}
 use Rattle.choices.proofs.on_dash_line.Statement.{statement}
 use Rattle.choices.proofs.on_dash_line.Tie as tie
-use Rattle.choices.proofs.on_dash_line.Reads as reads
-use Rattle.choices.proofs.on_dash_line.Lts as lts
-use Rattle.parts.proofs.is_either.Reads as is-either-reads
-use Rattle.choices.proofs.is_sequence.Reads as is-sequence-reads
-use Rattle.choices.proofs.is_unbroken.Reads as is-unbroken-reads
-use Rattle.parts.proofs.is_marked.Reads as is-marked-reads
 
 -- src/lib.rt:322:8
 is-either-requires : tie.Need-is-either-requires

@@ -3,10 +3,6 @@ use Rattle.choices.specs.Choices.{rootColumnIn}
 use borrow.Author.Needs.{needs}
 use Rattle.choices.proofs.root_column.Statement.{statement}
 use Rattle.choices.proofs.root_column.Tie as tie
-use Rattle.choices.proofs.root_column.Reads as reads
-use Rattle.choices.proofs.root_column.Lts as lts
-use Rattle.choices.proofs.is_under_tag.Reads as is-under-tag-reads
-use Rattle.choices.proofs.step_of.Reads as step-of-reads
 
 -- src/lib.rt:363:8
 is-under-tag-requires : tie.Need-is-under-tag-requires

@@ -6,10 +6,6 @@ use lib.ListN.{length}
 use Rattle.choices.proofs.Laws.{Same, found, passed, last, none}
 use Rattle.choices.proofs.some_comments.Statement.{statement}
 use Rattle.choices.proofs.some_comments.Tie as tie
-use Rattle.choices.proofs.some_comments.Reads as reads
-use Rattle.choices.proofs.some_comments.Lts as lts
-use Rattle.node.proofs.has_comments.Reads as has-comments-reads
-use Rattle.node.proofs.subtree_end.Reads as subtree-end-reads
 
 abbrev Inv-loop : tie.InvT-loop
 Inv-loop deck n here₀ left₀ here left = Same deck left here left₀ here₀ × (here .at ≤ length deck) × (0 < left)

@@ -3,8 +3,6 @@ use Rattle.definition.specs.Settings.{stepOf}
 use borrow.Author.Tests.{eq-eqb, ne-eqb}
 use Rattle.choices.proofs.step_of.Statement.{statement}
 use Rattle.choices.proofs.step_of.Tie as tie
-use Rattle.choices.proofs.step_of.Reads as reads
-use Rattle.choices.proofs.step_of.Lts as lts
 
 -- src/lib.rt:235:9
 returns : tie.Need-returns

@@ -3,10 +3,6 @@ use Rattle.choices.specs.Choices.{valueColumnIn}
 use borrow.Author.Needs.{needs}
 use Rattle.choices.proofs.value_column.Statement.{statement}
 use Rattle.choices.proofs.value_column.Tie as tie
-use Rattle.choices.proofs.value_column.Reads as reads
-use Rattle.choices.proofs.value_column.Lts as lts
-use Rattle.choices.proofs.is_flush_sequence.Reads as is-flush-sequence-reads
-use Rattle.choices.proofs.step_of.Reads as step-of-reads
 
 -- src/lib.rt:282:8
 is-flush-sequence-requires : tie.Need-is-flush-sequence-requires

@@ -1,8 +1,6 @@
 use Rattle.pen.specs.Shown.{fresh}
 use Rattle.document.proofs.fresh_writer.Statement.{statement}
 use Rattle.document.proofs.fresh_writer.Tie as tie
-use Rattle.document.proofs.fresh_writer.Reads as reads
-use Rattle.document.proofs.fresh_writer.Lts as lts
 
 -- src/lib.rt:347:1
 returns : tie.Need-returns

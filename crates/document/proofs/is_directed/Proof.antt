@@ -1,9 +1,6 @@
 use borrow.Author.Needs.{needs}
 use Rattle.document.proofs.is_directed.Statement.{statement}
 use Rattle.document.proofs.is_directed.Tie as tie
-use Rattle.document.proofs.is_directed.Reads as reads
-use Rattle.document.proofs.is_directed.Lts as lts
-use Rattle.choices.proofs.is_included.Reads as is-included-reads
 
 -- src/lib.rt:192:8
 is-included-requires : tie.Need-is-included-requires

@@ -5,10 +5,6 @@ use Rattle.document.proofs.Laws.{all-none, all-whole}
 use borrow.Author.Needs.{needs}
 use Rattle.document.proofs.put_all.Statement.{statement}
 use Rattle.document.proofs.put_all.Tie as tie
-use Rattle.document.proofs.put_all.Reads as reads
-use Rattle.document.proofs.put_all.Lts as lts
-use Rattle.document.proofs.put_first.Reads as put-first-reads
-use Rattle.document.proofs.put_rest.Reads as put-rest-reads
 
 -- src/lib.rt:338:9
 returns : tie.Need-returns

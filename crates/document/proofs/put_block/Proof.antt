@@ -1,15 +1,9 @@
 use Rattle.layout.specs.Calm.{calm-drawn}
 use Rattle.document.specs.Root.{root-calm}
-use native.Mathlib.Omega.{arith}
 use Rattle.document.proofs.Laws.{block-whole}
 use borrow.Author.Needs.{needs}
 use Rattle.document.proofs.put_block.Statement.{statement}
 use Rattle.document.proofs.put_block.Tie as tie
-use Rattle.document.proofs.put_block.Reads as reads
-use Rattle.document.proofs.put_block.Lts as lts
-use Rattle.choices.proofs.root_column.Reads as root-column-reads
-use Rattle.block.proofs.put_members.Reads as put-members-reads
-use Rattle.parts.proofs.put_props_line.Reads as put-props-line-reads
 
 -- src/lib.rt:136:9
 root-column-requires : tie.Need-root-column-requires

@@ -3,13 +3,6 @@ use Rattle.document.proofs.Laws.{body-block, body-bare, body-line}
 use borrow.Author.Needs.{needs}
 use Rattle.document.proofs.put_body.Statement.{statement}
 use Rattle.document.proofs.put_body.Tie as tie
-use Rattle.document.proofs.put_body.Reads as reads
-use Rattle.document.proofs.put_body.Lts as lts
-use Rattle.choices.proofs.bare_root.Reads as bare-root-reads
-use Rattle.choices.proofs.is_block.Reads as is-block-reads
-use Rattle.document.proofs.put_block.Reads as put-block-reads
-use Rattle.document.proofs.put_inlined.Reads as put-inlined-reads
-use Rattle.parts.proofs.put_props_line.Reads as put-props-line-reads
 
 -- src/lib.rt:177:8
 is-block-requires : tie.Need-is-block-requires

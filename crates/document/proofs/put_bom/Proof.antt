@@ -5,10 +5,6 @@ use Rattle.parts.specs.Draws.{draws-yes, draws-no, stays, of-puts}
 use borrow.Author.Needs.{needs}
 use Rattle.document.proofs.put_bom.Statement.{statement}
 use Rattle.document.proofs.put_bom.Tie as tie
-use Rattle.document.proofs.put_bom.Reads as reads
-use Rattle.document.proofs.put_bom.Lts as lts
-use Rattle.parts.proofs.is_marked.Reads as is-marked-reads
-use Rattle.pen.proofs.Writer.text.Reads as text-reads
 
 -- src/lib.rt:67:8
 is-marked-requires : tie.Need-is-marked-requires

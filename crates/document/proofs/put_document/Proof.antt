@@ -6,11 +6,6 @@ use Rattle.spot.specs.Good.{spot-good}
 use borrow.Author.Needs.{needs}
 use Rattle.document.proofs.put_document.Statement.{statement}
 use Rattle.document.proofs.put_document.Tie as tie
-use Rattle.document.proofs.put_document.Reads as reads
-use Rattle.document.proofs.put_document.Lts as lts
-use Rattle.document.proofs.put_opening.Reads as put-opening-reads
-use Rattle.document.proofs.put_root.Reads as put-root-reads
-use Rattle.parts.proofs.put_repeated.Reads as put-repeated-reads
 
 -- src/lib.rt:236:9
 put-opening-requires : tie.Need-put-opening-requires

@@ -4,10 +4,6 @@ use Rattle.parts.specs.Draws.{both, of-puts, of-byte}
 use borrow.Author.Needs.{needs}
 use Rattle.document.proofs.put_dots.Statement.{statement}
 use Rattle.document.proofs.put_dots.Tie as tie
-use Rattle.document.proofs.put_dots.Reads as reads
-use Rattle.document.proofs.put_dots.Lts as lts
-use Rattle.pen.proofs.Writer.byte.Reads as byte-reads
-use Rattle.pen.proofs.Writer.text.Reads as text-reads
 
 -- src/lib.rt:58:26
 slice-aggregate-text : tie.Need-slice-aggregate-text

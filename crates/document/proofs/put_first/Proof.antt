@@ -3,11 +3,6 @@ use Rattle.document.proofs.Laws.{first-whole}
 use borrow.Author.Needs.{needs}
 use Rattle.document.proofs.put_first.Statement.{statement}
 use Rattle.document.proofs.put_first.Tie as tie
-use Rattle.document.proofs.put_first.Reads as reads
-use Rattle.document.proofs.put_first.Lts as lts
-use Rattle.document.proofs.put_bom.Reads as put-bom-reads
-use Rattle.document.proofs.put_document.Reads as put-document-reads
-use Rattle.spot.proofs.spot_at.Reads as spot-at-reads
 
 -- src/lib.rt:257:9
 spot-at-requires : tie.Need-spot-at-requires

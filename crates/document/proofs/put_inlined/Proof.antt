@@ -5,12 +5,6 @@ use Rattle.document.proofs.Laws.{line-whole}
 use borrow.Author.Needs.{needs}
 use Rattle.document.proofs.put_inlined.Statement.{statement}
 use Rattle.document.proofs.put_inlined.Tie as tie
-use Rattle.document.proofs.put_inlined.Reads as reads
-use Rattle.document.proofs.put_inlined.Lts as lts
-use Rattle.choices.proofs.step_of.Reads as step-of-reads
-use Rattle.flow.proofs.content.Reads as content-reads
-use Rattle.parts.proofs.put_close.Reads as put-close-reads
-use Rattle.parts.proofs.put_props.Reads as put-props-reads
 
 -- src/lib.rt:154:9
 put-props-requires : tie.Need-put-props-requires

@@ -3,11 +3,6 @@ use Rattle.document.proofs.Laws.{later-whole}
 use borrow.Author.Needs.{needs}
 use Rattle.document.proofs.put_later.Statement.{statement}
 use Rattle.document.proofs.put_later.Tie as tie
-use Rattle.document.proofs.put_later.Reads as reads
-use Rattle.document.proofs.put_later.Lts as lts
-use Rattle.document.proofs.put_document.Reads as put-document-reads
-use Rattle.document.proofs.put_separation.Reads as put-separation-reads
-use Rattle.spot.proofs.spot_at.Reads as spot-at-reads
 
 -- src/lib.rt:296:9
 spot-at-requires : tie.Need-spot-at-requires

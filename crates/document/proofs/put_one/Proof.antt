@@ -2,10 +2,6 @@ use Rattle.document.proofs.Laws.{one-whole}
 use borrow.Author.Needs.{needs}
 use Rattle.document.proofs.put_one.Statement.{statement}
 use Rattle.document.proofs.put_one.Tie as tie
-use Rattle.document.proofs.put_one.Reads as reads
-use Rattle.document.proofs.put_one.Lts as lts
-use Rattle.document.proofs.put_first.Reads as put-first-reads
-use Rattle.document.proofs.put_stop.Reads as put-stop-reads
 
 -- src/lib.rt:277:9
 put-first-requires : tie.Need-put-first-requires

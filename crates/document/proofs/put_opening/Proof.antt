@@ -5,10 +5,6 @@ use Rattle.document.specs.Pieces.{opened}
 use borrow.Author.Needs.{needs}
 use Rattle.document.proofs.put_opening.Statement.{statement}
 use Rattle.document.proofs.put_opening.Tie as tie
-use Rattle.document.proofs.put_opening.Reads as reads
-use Rattle.document.proofs.put_opening.Lts as lts
-use Rattle.document.proofs.put_start.Reads as put-start-reads
-use Rattle.parts.proofs.put_repeated.Reads as put-repeated-reads
 
 -- src/lib.rt:117:9
 put-repeated-requires : tie.Need-put-repeated-requires

@@ -4,9 +4,6 @@ use Rattle.pen.specs.Pen.{pen}
 use Rattle.document.proofs.Laws.{Pending, rest-start, rest-turn, rest-end, rest-out}
 use Rattle.document.proofs.put_rest.Statement.{statement}
 use Rattle.document.proofs.put_rest.Tie as tie
-use Rattle.document.proofs.put_rest.Reads as reads
-use Rattle.document.proofs.put_rest.Lts as lts
-use Rattle.document.proofs.put_later.Reads as put-later-reads
 
 abbrev Inv-loop : tie.InvT-loop
 Inv-loop deck pool out₀ settings n v₀ here₀ left₀ out v here left = Pending settings deck pool (pen v₀ out₀) left₀ here₀ (pen v out) left here

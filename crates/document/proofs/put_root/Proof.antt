@@ -6,12 +6,6 @@ use Rattle.spot.specs.Good.{spot-good, few-spot}
 use borrow.Author.Needs.{needs}
 use Rattle.document.proofs.put_root.Statement.{statement}
 use Rattle.document.proofs.put_root.Tie as tie
-use Rattle.document.proofs.put_root.Reads as reads
-use Rattle.document.proofs.put_root.Lts as lts
-use Rattle.document.proofs.is_directed.Reads as is-directed-reads
-use Rattle.document.proofs.put_body.Reads as put-body-reads
-use Rattle.node.proofs.subtree_end.Reads as subtree-end-reads
-use Rattle.parts.proofs.put_include_line.Reads as put-include-line-reads
 
 -- src/lib.rt:213:8
 is-directed-requires : tie.Need-is-directed-requires

@@ -8,11 +8,6 @@ use Rattle.parts.specs.Draws.{draws-yes, draws-no, stays}
 use borrow.Author.Needs.{needs}
 use Rattle.document.proofs.put_separation.Statement.{statement}
 use Rattle.document.proofs.put_separation.Tie as tie
-use Rattle.document.proofs.put_separation.Reads as reads
-use Rattle.document.proofs.put_separation.Lts as lts
-use Rattle.document.proofs.put_dashes.Reads as put-dashes-reads
-use Rattle.document.proofs.put_dots.Reads as put-dots-reads
-use Rattle.parts.proofs.is_marked.Reads as is-marked-reads
 
 -- src/lib.rt:102:9
 put-dots-requires : tie.Need-put-dots-requires

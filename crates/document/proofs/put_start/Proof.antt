@@ -4,10 +4,6 @@ use Rattle.parts.specs.Draws.{draws-yes, draws-no, stays}
 use borrow.Author.Needs.{needs}
 use Rattle.document.proofs.put_start.Statement.{statement}
 use Rattle.document.proofs.put_start.Tie as tie
-use Rattle.document.proofs.put_start.Reads as reads
-use Rattle.document.proofs.put_start.Lts as lts
-use Rattle.document.proofs.put_dashes.Reads as put-dashes-reads
-use Rattle.parts.proofs.is_marked.Reads as is-marked-reads
 
 -- src/lib.rt:78:8
 is-marked-requires : tie.Need-is-marked-requires

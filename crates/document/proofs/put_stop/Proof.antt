@@ -3,9 +3,6 @@ use Rattle.parts.specs.Draws.{draws-yes, draws-no, stays}
 use borrow.Author.Needs.{needs}
 use Rattle.document.proofs.put_stop.Statement.{statement}
 use Rattle.document.proofs.put_stop.Tie as tie
-use Rattle.document.proofs.put_stop.Reads as reads
-use Rattle.document.proofs.put_stop.Lts as lts
-use Rattle.document.proofs.put_dots.Reads as put-dots-reads
 
 -- src/lib.rt:90:9
 put-dots-requires : tie.Need-put-dots-requires

@@ -4,10 +4,6 @@ use Rattle.pen.specs.Pen.{ended}
 use borrow.Author.Needs.{needs}
 use Rattle.document.proofs.write_all.Statement.{statement}
 use Rattle.document.proofs.write_all.Tie as tie
-use Rattle.document.proofs.write_all.Reads as reads
-use Rattle.document.proofs.write_all.Lts as lts
-use Rattle.document.proofs.put_all.Reads as put-all-reads
-use Rattle.pen.proofs.Writer.finish.Reads as finish-reads
 
 -- src/lib.rt:393:9
 put-all-requires : tie.Need-put-all-requires

@@ -4,10 +4,6 @@ use Rattle.pen.specs.Pen.{ended}
 use borrow.Author.Needs.{needs}
 use Rattle.document.proofs.write_one.Statement.{statement}
 use Rattle.document.proofs.write_one.Tie as tie
-use Rattle.document.proofs.write_one.Reads as reads
-use Rattle.document.proofs.write_one.Lts as lts
-use Rattle.document.proofs.put_one.Reads as put-one-reads
-use Rattle.pen.proofs.Writer.finish.Reads as finish-reads
 
 -- src/lib.rt:376:9
 put-one-requires : tie.Need-put-one-requires

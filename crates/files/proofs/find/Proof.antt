@@ -3,9 +3,6 @@ use Rattle.files.proofs.Laws.{Finding, finding-first, found-stop, found
 use borrow.Author.Needs.{needs}
 use Rattle.files.proofs.find.Statement.{statement}
 use Rattle.files.proofs.find.Tie as tie
-use Rattle.files.proofs.find.Reads as reads
-use Rattle.files.proofs.find.Lts as lts
-use Rattle.files.proofs.look.Reads as look-reads
 
 abbrev Inv-loop : tie.InvT-loop
 Inv-loop deck here₀ left₀ here left = Finding deck left₀ here₀ left here

@@ -3,8 +3,6 @@ use Rattle.files.specs.Files.{isReady}
 use borrow.Author.Tests.{lt-ltb, le-ltb}
 use Rattle.files.proofs.is_ready.Statement.{statement}
 use Rattle.files.proofs.is_ready.Tie as tie
-use Rattle.files.proofs.is_ready.Reads as reads
-use Rattle.files.proofs.is_ready.Lts as lts
 
 returns : tie.Need-returns
 unfolding isReady

@@ -9,10 +9,6 @@ use mathlib.Core.Path.{ap}
 use borrow.Author.Needs.{needs}
 use Rattle.files.proofs.look.Statement.{statement}
 use Rattle.files.proofs.look.Tie as tie
-use Rattle.files.proofs.look.Reads as reads
-use Rattle.files.proofs.look.Lts as lts
-use Rattle.modified.proofs.file_at.Reads as file-at-reads
-use Rattle.spot.proofs.spot_at.Reads as spot-at-reads
 
 spot-at-requires : tie.Need-spot-at-requires
 spot-at-requires c κs = search needs

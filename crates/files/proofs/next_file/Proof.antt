@@ -4,12 +4,6 @@ use Rattle.files.proofs.Laws.{ready-by, unready-stayed, none-stayed, fi
 use borrow.Author.Needs.{needs}
 use Rattle.files.proofs.next_file.Statement.{statement}
 use Rattle.files.proofs.next_file.Tie as tie
-use Rattle.files.proofs.next_file.Reads as reads
-use Rattle.files.proofs.next_file.Lts as lts
-use Rattle.files.proofs.find.Reads as find-reads
-use Rattle.files.proofs.is_ready.Reads as is-ready-reads
-use Rattle.files.proofs.stay.Reads as stay-reads
-use Rattle.files.proofs.write_file.Reads as write-file-reads
 
 is-ready-requires : tie.Need-is-ready-requires
 is-ready-requires c κs = search needs

@@ -2,8 +2,6 @@
 use Rattle.definition.specs.Settings.{plainSettings, nullAs}
 use Rattle.files.proofs.plain.Statement.{statement}
 use Rattle.files.proofs.plain.Tie as tie
-use Rattle.files.proofs.plain.Reads as reads
-use Rattle.files.proofs.plain.Lts as lts
 
 returns : tie.Need-returns
 unfolding plainSettings nullAs

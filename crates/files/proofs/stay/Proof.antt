@@ -2,8 +2,6 @@
 use Rattle.definition.specs.Calls.{noChange}
 use Rattle.files.proofs.stay.Statement.{statement}
 use Rattle.files.proofs.stay.Tie as tie
-use Rattle.files.proofs.stay.Reads as reads
-use Rattle.files.proofs.stay.Lts as lts
 
 returns : tie.Need-returns
 unfolding noChange

@@ -4,11 +4,6 @@ use Rattle.files.proofs.Laws.{file-calm, file-len, file-done}
 use borrow.Author.Needs.{needs}
 use Rattle.files.proofs.write_file.Statement.{statement}
 use Rattle.files.proofs.write_file.Tie as tie
-use Rattle.files.proofs.write_file.Reads as reads
-use Rattle.files.proofs.write_file.Lts as lts
-use Rattle.document.proofs.fresh_writer.Reads as fresh-writer-reads
-use Rattle.document.proofs.write_one.Reads as write-one-reads
-use Rattle.files.proofs.plain.Reads as plain-reads
 
 plain-requires : tie.Need-plain-requires
 plain-requires c κs = search needs

@@ -2,10 +2,6 @@ use Rattle.flow.proofs.Laws.{some-pairs-are, some-items-are}
 use borrow.Author.Needs.{needs}
 use Rattle.flow.proofs.commented.Statement.{statement}
 use Rattle.flow.proofs.commented.Tie as tie
-use Rattle.flow.proofs.commented.Reads as reads
-use Rattle.flow.proofs.commented.Lts as lts
-use Rattle.choices.proofs.any_comments.Reads as any-comments-reads
-use Rattle.choices.proofs.any_comments_in.Reads as any-comments-in-reads
 
 -- src/lib.rt:33:9
 any-comments-in-requires : tie.Need-any-comments-in-requires

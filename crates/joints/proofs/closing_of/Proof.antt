@@ -1,8 +1,6 @@
 use Rattle.joints.specs.Entries.{closing}
 use Rattle.joints.proofs.closing_of.Statement.{statement}
 use Rattle.joints.proofs.closing_of.Tie as tie
-use Rattle.joints.proofs.closing_of.Reads as reads
-use Rattle.joints.proofs.closing_of.Lts as lts
 
 -- src/lib.rt:140:1
 returns : tie.Need-returns

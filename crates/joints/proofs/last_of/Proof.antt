@@ -2,9 +2,6 @@ use Rattle.joints.proofs.Laws.{last-value, last-item}
 use borrow.Author.Needs.{needs}
 use Rattle.joints.proofs.last_of.Statement.{statement}
 use Rattle.joints.proofs.last_of.Tie as tie
-use Rattle.joints.proofs.last_of.Reads as reads
-use Rattle.joints.proofs.last_of.Lts as lts
-use Rattle.node.proofs.subtree_end.Reads as subtree-end-reads
 
 -- src/lib.rt:79:9
 subtree-end-requires : tie.Need-subtree-end-requires

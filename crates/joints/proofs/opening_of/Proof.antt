@@ -1,8 +1,6 @@
 use Rattle.joints.specs.Entries.{opening}
 use Rattle.joints.proofs.opening_of.Statement.{statement}
 use Rattle.joints.proofs.opening_of.Tie as tie
-use Rattle.joints.proofs.opening_of.Reads as reads
-use Rattle.joints.proofs.opening_of.Lts as lts
 
 -- src/lib.rt:134:1
 returns : tie.Need-returns

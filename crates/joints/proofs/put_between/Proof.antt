@@ -4,9 +4,6 @@ use Rattle.pen.specs.Pen.{ink, puts}
 use borrow.Author.Needs.{needs}
 use Rattle.joints.proofs.put_between.Statement.{statement}
 use Rattle.joints.proofs.put_between.Tie as tie
-use Rattle.joints.proofs.put_between.Reads as reads
-use Rattle.joints.proofs.put_between.Lts as lts
-use Rattle.scalar.proofs.put_separator.Reads as put-separator-reads
 
 -- src/lib.rt:44:9
 returns : tie.Need-returns

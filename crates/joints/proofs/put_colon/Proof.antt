@@ -2,10 +2,6 @@ use Rattle.joints.proofs.Laws.{colon-null, colon-scalar, colon-alias, c
 use borrow.Author.Needs.{needs}
 use Rattle.joints.proofs.put_colon.Statement.{statement}
 use Rattle.joints.proofs.put_colon.Tie as tie
-use Rattle.joints.proofs.put_colon.Reads as reads
-use Rattle.joints.proofs.put_colon.Lts as lts
-use Rattle.pen.proofs.Writer.byte.Reads as byte-reads
-use Rattle.pen.proofs.Writer.text.Reads as text-reads
 
 -- src/lib.rt:56:30
 enum-told : tie.Need-enum-told

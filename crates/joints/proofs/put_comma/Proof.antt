@@ -3,9 +3,6 @@ use Rattle.definition.specs.Pen.{sign, mark}
 use borrow.Author.Needs.{needs}
 use Rattle.joints.proofs.put_comma.Statement.{statement}
 use Rattle.joints.proofs.put_comma.Tie as tie
-use Rattle.joints.proofs.put_comma.Reads as reads
-use Rattle.joints.proofs.put_comma.Lts as lts
-use Rattle.pen.proofs.Writer.byte.Reads as byte-reads
 
 -- src/lib.rt:112:9
 returns : tie.Need-returns

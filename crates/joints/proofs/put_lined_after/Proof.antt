@@ -4,11 +4,6 @@ use Rattle.parts.specs.Draws.{both, of-byte}
 use borrow.Author.Needs.{needs}
 use Rattle.joints.proofs.put_lined_after.Statement.{statement}
 use Rattle.joints.proofs.put_lined_after.Tie as tie
-use Rattle.joints.proofs.put_lined_after.Reads as reads
-use Rattle.joints.proofs.put_lined_after.Lts as lts
-use Rattle.joints.proofs.put_comma.Reads as put-comma-reads
-use Rattle.parts.proofs.put_remark.Reads as put-remark-reads
-use Rattle.pen.proofs.Writer.byte.Reads as byte-reads
 
 -- src/lib.rt:129:9
 put-comma-requires : tie.Need-put-comma-requires

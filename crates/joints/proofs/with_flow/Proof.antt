@@ -2,8 +2,6 @@ use mathlib.Core.Path.{refl}
 use Rattle.scripts.specs.Keep.{withFlow}
 use Rattle.joints.proofs.with_flow.Statement.{statement}
 use Rattle.joints.proofs.with_flow.Tie as tie
-use Rattle.joints.proofs.with_flow.Reads as reads
-use Rattle.joints.proofs.with_flow.Lts as lts
 
 -- src/lib.rt:24:1
 returns : tie.Need-returns

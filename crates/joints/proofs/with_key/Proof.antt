@@ -2,8 +2,6 @@ use mathlib.Core.Path.{refl}
 use Rattle.scripts.specs.Keep.{withKey}
 use Rattle.joints.proofs.with_key.Statement.{statement}
 use Rattle.joints.proofs.with_key.Tie as tie
-use Rattle.joints.proofs.with_key.Reads as reads
-use Rattle.joints.proofs.with_key.Lts as lts
 
 -- src/lib.rt:31:1
 returns : tie.Need-returns

@@ -3,11 +3,6 @@ use Rattle.layout.proofs.Laws.{below-whole}
 use borrow.Author.Needs.{needs}
 use Rattle.layout.proofs.put_below.Statement.{statement}
 use Rattle.layout.proofs.put_below.Tie as tie
-use Rattle.layout.proofs.put_below.Reads as reads
-use Rattle.layout.proofs.put_below.Lts as lts
-use Rattle.flow.proofs.content.Reads as content-reads
-use Rattle.parts.proofs.put_below.Reads as put-below-reads
-use Rattle.pen.proofs.Writer.end_line.Reads as end-line-reads
 
 -- src/lib.rt:83:9
 put-below-requires : tie.Need-put-below-requires

@@ -2,11 +2,6 @@ use Rattle.layout.proofs.Laws.{included-whole}
 use borrow.Author.Needs.{needs}
 use Rattle.layout.proofs.put_include.Statement.{statement}
 use Rattle.layout.proofs.put_include.Tie as tie
-use Rattle.layout.proofs.put_include.Reads as reads
-use Rattle.layout.proofs.put_include.Lts as lts
-use Rattle.node.proofs.subtree_end.Reads as subtree-end-reads
-use Rattle.parts.proofs.put_include_line.Reads as put-include-line-reads
-use Rattle.pen.proofs.Writer.byte.Reads as byte-reads
 
 -- src/lib.rt:37:9
 byte-requires : tie.Need-byte-requires

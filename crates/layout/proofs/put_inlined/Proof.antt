@@ -4,11 +4,6 @@ use Rattle.layout.proofs.Laws.{inlined-whole}
 use borrow.Author.Needs.{needs}
 use Rattle.layout.proofs.put_inlined.Statement.{statement}
 use Rattle.layout.proofs.put_inlined.Tie as tie
-use Rattle.layout.proofs.put_inlined.Reads as reads
-use Rattle.layout.proofs.put_inlined.Lts as lts
-use Rattle.flow.proofs.content.Reads as content-reads
-use Rattle.parts.proofs.put_close.Reads as put-close-reads
-use Rattle.parts.proofs.put_props.Reads as put-props-reads
 
 -- src/lib.rt:61:9
 put-props-requires : tie.Need-put-props-requires

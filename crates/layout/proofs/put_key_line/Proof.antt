@@ -1,20 +1,13 @@
 use Rattle.parts.specs.Runs.{of-props}
 use Rattle.layout.proofs.Laws.{key-line-whole, after-key}
 use Rattle.flow.specs.Ready.{kept-length}
-use Rattle.definition.specs.Pen.{mark, sign}
+use Rattle.definition.specs.Pen.{mark}
 use Rattle.flow.specs.Ready.{after, after-drawn}
 use Rattle.parts.specs.Draws.{of-byte}
 use native.Mathlib.Omega.{arith}
 use borrow.Author.Needs.{needs}
 use Rattle.layout.proofs.put_key_line.Statement.{statement}
 use Rattle.layout.proofs.put_key_line.Tie as tie
-use Rattle.layout.proofs.put_key_line.Reads as reads
-use Rattle.layout.proofs.put_key_line.Lts as lts
-use Rattle.flow.proofs.content.Reads as content-reads
-use Rattle.joints.proofs.with_key.Reads as with-key-reads
-use Rattle.parts.proofs.put_props.Reads as put-props-reads
-use Rattle.pen.proofs.Writer.byte.Reads as byte-reads
-use Rattle.pen.proofs.Writer.end_line.Reads as end-line-reads
 
 -- src/lib.rt:130:9
 byte-requires : tie.Need-byte-requires

@@ -8,16 +8,6 @@ use Rattle.layout.proofs.Laws.{value-bare, value-below, value-inline}
 use borrow.Author.Needs.{needs}
 use Rattle.layout.proofs.put_value.Statement.{statement}
 use Rattle.layout.proofs.put_value.Tie as tie
-use Rattle.layout.proofs.put_value.Reads as reads
-use Rattle.layout.proofs.put_value.Lts as lts
-use Rattle.choices.proofs.bare.Reads as bare-reads
-use Rattle.layout.proofs.put_below.Reads as put-below-reads
-use Rattle.layout.proofs.put_inlined.Reads as put-inlined-reads
-use Rattle.parts.proofs.is_marked.Reads as is-marked-reads
-use Rattle.parts.proofs.put_props_compact.Reads as put-props-compact-reads
-use Rattle.pen.proofs.Writer.byte.Reads as byte-reads
-use Rattle.pen.proofs.Writer.spaces.Reads as spaces-reads
-use Rattle.pen.proofs.at_least_one.Reads as at-least-one-reads
 
 -- src/lib.rt:108:8
 bare-requires : tie.Need-bare-requires

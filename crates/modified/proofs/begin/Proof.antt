@@ -5,14 +5,6 @@ use Rattle.modified.proofs.Laws.{start-passed, start-marked, start-kids
 use borrow.Author.Needs.{needs}
 use Rattle.modified.proofs.begin.Statement.{statement}
 use Rattle.modified.proofs.begin.Tie as tie
-use Rattle.modified.proofs.begin.Reads as reads
-use Rattle.modified.proofs.begin.Lts as lts
-use Rattle.modified.proofs.is_mapping.Reads as is-mapping-reads
-use Rattle.modified.proofs.is_passed.Reads as is-passed-reads
-use Rattle.modified.proofs.kids.Reads as kids-reads
-use Rattle.node.proofs.subtree_end.Reads as subtree-end-reads
-use Rattle.parts.proofs.is_marked.Reads as is-marked-reads
-use Rattle.spot.proofs.spot_at.Reads as spot-at-reads
 
 spot-at-requires : tie.Need-spot-at-requires
 spot-at-requires c κs = search needs

@@ -4,9 +4,6 @@ use borrow.Author.Needs.{needs}
 use Rattle.modified.proofs.Counts.{Sum, sum-start, sum-more, sum-end, sum-out}
 use Rattle.modified.proofs.count_all.Statement.{statement}
 use Rattle.modified.proofs.count_all.Tie as tie
-use Rattle.modified.proofs.count_all.Reads as reads
-use Rattle.modified.proofs.count_all.Lts as lts
-use Rattle.modified.proofs.count_changed.Reads as count-changed-reads
 
 abbrev Inv-loop : tie.InvT-loop
 Inv-loop deck count₀ here₀ left₀ count here left = Sum deck count left here

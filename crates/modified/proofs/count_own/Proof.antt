@@ -7,12 +7,6 @@ use Rattle.modified.proofs.Counts.{own-is}
 use borrow.Author.Needs.{needs}
 use Rattle.modified.proofs.count_own.Statement.{statement}
 use Rattle.modified.proofs.count_own.Tie as tie
-use Rattle.modified.proofs.count_own.Reads as reads
-use Rattle.modified.proofs.count_own.Lts as lts
-use Rattle.modified.proofs.file_of.Reads as file-of-reads
-use Rattle.modified.proofs.kids.Reads as kids-reads
-use Rattle.modified.proofs.tally_of.Reads as tally-of-reads
-use Rattle.spot.proofs.spot_at.Reads as spot-at-reads
 
 spot-at-requires : tie.Need-spot-at-requires
 spot-at-requires c κs = search needs

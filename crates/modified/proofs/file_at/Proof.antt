@@ -4,10 +4,6 @@ use Rattle.spot.specs.declared.Spot.{Spot}
 use borrow.Author.Needs.{needs}
 use Rattle.modified.proofs.file_at.Statement.{statement}
 use Rattle.modified.proofs.file_at.Tie as tie
-use Rattle.modified.proofs.file_at.Reads as reads
-use Rattle.modified.proofs.file_at.Lts as lts
-use Rattle.modified.proofs.file_of.Reads as file-of-reads
-use Rattle.spot.proofs.spot_at.Reads as spot-at-reads
 
 spot-at-requires : tie.Need-spot-at-requires
 spot-at-requires c κs = search needs

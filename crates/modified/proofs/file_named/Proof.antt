@@ -3,9 +3,6 @@ use Rattle.modified.specs.Files.{fileNamed}
 use borrow.Author.Needs.{needs}
 use Rattle.modified.proofs.file_named.Statement.{statement}
 use Rattle.modified.proofs.file_named.Tie as tie
-use Rattle.modified.proofs.file_named.Reads as reads
-use Rattle.modified.proofs.file_named.Lts as lts
-use Rattle.choices.proofs.is_included.Reads as is-included-reads
 
 is-included-requires : tie.Need-is-included-requires
 is-included-requires c κs = search needs

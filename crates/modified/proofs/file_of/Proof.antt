@@ -3,10 +3,6 @@ use Rattle.modified.proofs.Laws.{file-absent, file-changed}
 use borrow.Author.Needs.{needs}
 use Rattle.modified.proofs.file_of.Statement.{statement}
 use Rattle.modified.proofs.file_of.Tie as tie
-use Rattle.modified.proofs.file_of.Reads as reads
-use Rattle.modified.proofs.file_of.Lts as lts
-use Rattle.modified.proofs.file_named.Reads as file-named-reads
-use Rattle.modified.proofs.if_changed.Reads as if-changed-reads
 
 file-named-requires : tie.Need-file-named-requires
 file-named-requires c κs = search needs

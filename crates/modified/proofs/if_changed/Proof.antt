@@ -2,9 +2,6 @@
 use borrow.Author.Needs.{needs}
 use Rattle.modified.proofs.if_changed.Statement.{statement}
 use Rattle.modified.proofs.if_changed.Tie as tie
-use Rattle.modified.proofs.if_changed.Reads as reads
-use Rattle.modified.proofs.if_changed.Lts as lts
-use Rattle.modified.proofs.local_modified.Reads as local-modified-reads
 
 local-modified-requires : tie.Need-local-modified-requires
 local-modified-requires c κs = search needs

@@ -2,9 +2,6 @@
 use borrow.Author.Needs.{needs}
 use Rattle.modified.proofs.is_passed.Statement.{statement}
 use Rattle.modified.proofs.is_passed.Tie as tie
-use Rattle.modified.proofs.is_passed.Reads as reads
-use Rattle.modified.proofs.is_passed.Lts as lts
-use Rattle.choices.proofs.is_included.Reads as is-included-reads
 
 returns : tie.Need-returns
 returns c = rw (c .if1 .taken)

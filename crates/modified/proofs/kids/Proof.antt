@@ -6,8 +6,6 @@ use Rattle.modified.proofs.Laws.{twice-is}
 use borrow.Author.Needs.{needs}
 use Rattle.modified.proofs.kids.Statement.{statement}
 use Rattle.modified.proofs.kids.Tie as tie
-use Rattle.modified.proofs.kids.Reads as reads
-use Rattle.modified.proofs.kids.Lts as lts
 
 enum-told : tie.Need-enum-told
 enum-told c = search needs

@@ -3,9 +3,6 @@ use Rattle.modified.specs.Local.{seen}
 use borrow.Author.Needs.{needs}
 use Rattle.modified.proofs.local_modified.Statement.{statement}
 use Rattle.modified.proofs.local_modified.Tie as tie
-use Rattle.modified.proofs.local_modified.Reads as reads
-use Rattle.modified.proofs.local_modified.Lts as lts
-use Rattle.modified.proofs.look.Reads as look-reads
 
 look-requires : tie.Need-look-requires
 look-requires c κs = search needs

@@ -3,8 +3,6 @@ use Rattle.modified.specs.Files.{tally}
 use borrow.Author.Needs.{needs}
 use Rattle.modified.proofs.tally_of.Statement.{statement}
 use Rattle.modified.proofs.tally_of.Tie as tie
-use Rattle.modified.proofs.tally_of.Reads as reads
-use Rattle.modified.proofs.tally_of.Lts as lts
 
 enum-told : tie.Need-enum-told
 enum-told c = search needs

@@ -2,8 +2,6 @@
 use Rattle.modified.specs.Local.{turned}
 use Rattle.modified.proofs.turn.Statement.{statement}
 use Rattle.modified.proofs.turn.Tie as tie
-use Rattle.modified.proofs.turn.Reads as reads
-use Rattle.modified.proofs.turn.Lts as lts
 
 returns : tie.Need-returns
 unfolding turned

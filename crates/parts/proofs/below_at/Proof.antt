@@ -6,10 +6,6 @@ use Rattle.parts.specs.Draws.{draws-yes, draws-no, stays}
 use borrow.Author.Needs.{needs}
 use Rattle.parts.proofs.below_at.Statement.{statement}
 use Rattle.parts.proofs.below_at.Tie as tie
-use Rattle.parts.proofs.below_at.Reads as reads
-use Rattle.parts.proofs.below_at.Lts as lts
-use Rattle.parts.proofs.comment_at.Reads as comment-at-reads
-use Rattle.parts.proofs.is_below.Reads as is-below-reads
 
 -- src/lib.rt:105:8
 is-below-requires : tie.Need-is-below-requires

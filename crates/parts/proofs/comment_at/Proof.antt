@@ -1,13 +1,6 @@
-use mathlib.Core.Path.{subst}
-use Rattle.definition.specs.Walk.{commentLine}
-use Rattle.parts.specs.Draws.{Draws}
 use borrow.Author.Needs.{needs}
 use Rattle.parts.proofs.comment_at.Statement.{statement}
 use Rattle.parts.proofs.comment_at.Tie as tie
-use Rattle.parts.proofs.comment_at.Reads as reads
-use Rattle.parts.proofs.comment_at.Lts as lts
-use Rattle.parts.proofs.comment_line.Reads as comment-line-reads
-use Rattle.parts.proofs.text_of.Reads as text-of-reads
 
 -- src/lib.rt:88:9
 text-of-requires : tie.Need-text-of-requires

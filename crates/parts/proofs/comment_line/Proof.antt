@@ -4,11 +4,6 @@ use Rattle.parts.specs.Draws.{both, of-puts, of-byte}
 use borrow.Author.Needs.{needs}
 use Rattle.parts.proofs.comment_line.Statement.{statement}
 use Rattle.parts.proofs.comment_line.Tie as tie
-use Rattle.parts.proofs.comment_line.Reads as reads
-use Rattle.parts.proofs.comment_line.Lts as lts
-use Rattle.pen.proofs.Writer.byte.Reads as byte-reads
-use Rattle.pen.proofs.Writer.hashed.Reads as hashed-reads
-use Rattle.pen.proofs.Writer.spaces.Reads as spaces-reads
 
 -- src/lib.rt:39:9
 spaces-requires : tie.Need-spaces-requires

@@ -1,10 +1,6 @@
 use borrow.Author.Needs.{needs}
 use Rattle.parts.proofs.directive_at.Statement.{statement}
 use Rattle.parts.proofs.directive_at.Tie as tie
-use Rattle.parts.proofs.directive_at.Reads as reads
-use Rattle.parts.proofs.directive_at.Lts as lts
-use Rattle.parts.proofs.percent_line.Reads as percent-line-reads
-use Rattle.parts.proofs.text_of.Reads as text-of-reads
 
 -- src/lib.rt:116:9
 text-of-requires : tie.Need-text-of-requires

@@ -2,9 +2,6 @@ use Rattle.definition.specs.Deck.{isBelow}
 use borrow.Author.Needs.{needs}
 use Rattle.parts.proofs.is_below.Statement.{statement}
 use Rattle.parts.proofs.is_below.Tie as tie
-use Rattle.parts.proofs.is_below.Reads as reads
-use Rattle.parts.proofs.is_below.Lts as lts
-use Rattle.deck.proofs.heading_at.Reads as heading-at-reads
 
 -- src/lib.rt:67:29
 add-t6 : tie.Need-add-t6

@@ -2,8 +2,6 @@ use Rattle.definition.specs.Deck.{marked}
 use borrow.Author.Needs.{needs}
 use Rattle.parts.proofs.is_marked.Statement.{statement}
 use Rattle.parts.proofs.is_marked.Tie as tie
-use Rattle.parts.proofs.is_marked.Reads as reads
-use Rattle.parts.proofs.is_marked.Lts as lts
 
 -- src/lib.rt:246:6
 div-result : tie.Need-div-result

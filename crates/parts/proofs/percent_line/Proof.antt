@@ -6,10 +6,6 @@ use Rattle.pen.specs.Pen.{puts}
 use borrow.Author.Needs.{needs}
 use Rattle.parts.proofs.percent_line.Statement.{statement}
 use Rattle.parts.proofs.percent_line.Tie as tie
-use Rattle.parts.proofs.percent_line.Reads as reads
-use Rattle.parts.proofs.percent_line.Lts as lts
-use Rattle.pen.proofs.Writer.byte.Reads as byte-reads
-use Rattle.pen.proofs.Writer.text.Reads as text-reads
 
 -- src/lib.rt:48:9
 byte-requires : tie.Need-byte-requires

@@ -7,11 +7,6 @@ use Rattle.parts.specs.Draws.{draws-yes, draws-no}
 use borrow.Author.Needs.{needs}
 use Rattle.parts.proofs.put_above_dash.Statement.{statement}
 use Rattle.parts.proofs.put_above_dash.Tie as tie
-use Rattle.parts.proofs.put_above_dash.Reads as reads
-use Rattle.parts.proofs.put_above_dash.Lts as lts
-use Rattle.parts.proofs.is_marked.Reads as is-marked-reads
-use Rattle.parts.proofs.put_heads.Reads as put-heads-reads
-use Rattle.parts.proofs.put_repeated.Reads as put-repeated-reads
 
 -- src/lib.rt:228:8
 is-marked-requires : tie.Need-is-marked-requires

@@ -6,11 +6,6 @@ use Rattle.parts.specs.Draws.{both, of-puts}
 use borrow.Author.Needs.{needs}
 use Rattle.parts.proofs.put_below.Statement.{statement}
 use Rattle.parts.proofs.put_below.Tie as tie
-use Rattle.parts.proofs.put_below.Reads as reads
-use Rattle.parts.proofs.put_below.Lts as lts
-use Rattle.parts.proofs.put_break.Reads as put-break-reads
-use Rattle.parts.proofs.put_repeated.Reads as put-repeated-reads
-use Rattle.pen.proofs.Writer.spaces.Reads as spaces-reads
 
 -- src/lib.rt:427:9
 put-break-requires : tie.Need-put-break-requires

@@ -7,10 +7,6 @@ use Rattle.parts.specs.Draws.{draws-yes, draws-no, stays}
 use borrow.Author.Needs.{needs}
 use Rattle.parts.proofs.put_below_dash.Statement.{statement}
 use Rattle.parts.proofs.put_below_dash.Tie as tie
-use Rattle.parts.proofs.put_below_dash.Reads as reads
-use Rattle.parts.proofs.put_below_dash.Lts as lts
-use Rattle.parts.proofs.is_marked.Reads as is-marked-reads
-use Rattle.parts.proofs.put_repeated.Reads as put-repeated-reads
 
 -- src/lib.rt:247:8
 is-marked-requires : tie.Need-is-marked-requires

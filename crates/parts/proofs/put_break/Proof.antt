@@ -4,11 +4,6 @@ use Rattle.parts.specs.Draws.{both, of-byte}
 use borrow.Author.Needs.{needs}
 use Rattle.parts.proofs.put_break.Statement.{statement}
 use Rattle.parts.proofs.put_break.Tie as tie
-use Rattle.parts.proofs.put_break.Reads as reads
-use Rattle.parts.proofs.put_break.Lts as lts
-use Rattle.parts.proofs.put_props_compact.Reads as put-props-compact-reads
-use Rattle.parts.proofs.put_remark.Reads as put-remark-reads
-use Rattle.pen.proofs.Writer.byte.Reads as byte-reads
 
 -- src/lib.rt:364:9
 put-props-compact-requires : tie.Need-put-props-compact-requires

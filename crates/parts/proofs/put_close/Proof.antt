@@ -3,10 +3,6 @@ use Rattle.parts.specs.Draws.{both, of-end}
 use borrow.Author.Needs.{needs}
 use Rattle.parts.proofs.put_close.Statement.{statement}
 use Rattle.parts.proofs.put_close.Tie as tie
-use Rattle.parts.proofs.put_close.Reads as reads
-use Rattle.parts.proofs.put_close.Lts as lts
-use Rattle.parts.proofs.put_remark.Reads as put-remark-reads
-use Rattle.pen.proofs.Writer.end_line.Reads as end-line-reads
 
 -- src/lib.rt:374:9
 put-remark-requires : tie.Need-put-remark-requires

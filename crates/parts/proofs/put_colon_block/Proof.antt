@@ -5,10 +5,6 @@ use Rattle.parts.specs.Draws.{both}
 use borrow.Author.Needs.{needs}
 use Rattle.parts.proofs.put_colon_block.Statement.{statement}
 use Rattle.parts.proofs.put_colon_block.Tie as tie
-use Rattle.parts.proofs.put_colon_block.Reads as reads
-use Rattle.parts.proofs.put_colon_block.Lts as lts
-use Rattle.parts.proofs.put_break.Reads as put-break-reads
-use Rattle.parts.proofs.put_repeated.Reads as put-repeated-reads
 
 -- src/lib.rt:445:9
 put-break-requires : tie.Need-put-break-requires

@@ -4,10 +4,6 @@ use Rattle.parts.specs.Draws.{both}
 use borrow.Author.Needs.{needs}
 use Rattle.parts.proofs.put_dash_block.Statement.{statement}
 use Rattle.parts.proofs.put_dash_block.Tie as tie
-use Rattle.parts.proofs.put_dash_block.Reads as reads
-use Rattle.parts.proofs.put_dash_block.Lts as lts
-use Rattle.parts.proofs.put_below_dash.Reads as put-below-dash-reads
-use Rattle.parts.proofs.put_break.Reads as put-break-reads
 
 -- src/lib.rt:462:9
 put-break-requires : tie.Need-put-break-requires

@@ -3,11 +3,6 @@ use native.Mathlib.Omega.{arith}
 use borrow.Author.Needs.{needs}
 use Rattle.parts.proofs.put_directive.Statement.{statement}
 use Rattle.parts.proofs.put_directive.Tie as tie
-use Rattle.parts.proofs.put_directive.Reads as reads
-use Rattle.parts.proofs.put_directive.Lts as lts
-use Rattle.deck.proofs.words_of.Reads as words-of-reads
-use Rattle.pen.proofs.Writer.byte.Reads as byte-reads
-use Rattle.pen.proofs.Writer.text.Reads as text-reads
 
 -- src/lib.rt:341:9
 returns : tie.Need-returns

@@ -2,12 +2,6 @@ use Rattle.parts.specs.Runs.{entry}
 use borrow.Author.Needs.{needs}
 use Rattle.parts.proofs.put_entry.Statement.{statement}
 use Rattle.parts.proofs.put_entry.Tie as tie
-use Rattle.parts.proofs.put_entry.Reads as reads
-use Rattle.parts.proofs.put_entry.Lts as lts
-use Rattle.parts.proofs.above_at.Reads as above-at-reads
-use Rattle.parts.proofs.below_at.Reads as below-at-reads
-use Rattle.parts.proofs.comment_at.Reads as comment-at-reads
-use Rattle.parts.proofs.directive_at.Reads as directive-at-reads
 
 -- src/lib.rt:133:53
 enum-told : tie.Need-enum-told

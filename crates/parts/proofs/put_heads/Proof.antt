@@ -1,7 +1,8 @@
 -- `parts::put_heads` meets its contract.
+use mathlib.Core.Path.{refl}
 use Rattle.parts.specs.declared.Entries.the-variants.{Heads}
 use Rattle.parts.specs.Runs.{runOf, repeated}
-use Rattle.parts.proofs.Laws.{none-repeated}
+use Rattle.parts.proofs.Laws.{short-run, of-run, none-repeated}
 use borrow.Author.Needs.{needs}
 use Rattle.parts.proofs.put_heads.Statement.{statement}
 use Rattle.parts.proofs.put_heads.Tie as tie
@@ -10,15 +11,16 @@ returns : tie.Need-returns
 unfolding repeated runOf
 returns c = none-repeated _ _ Heads _ (c .before .before .before .before .before .args .lead) (c .if1 .taken)
 
-put-repeated-requires : tie.Need-put-repeated-requires
-put-repeated-requires c κs = search needs
+put-run-requires : tie.Need-put-run-requires
+unfolding runOf
+put-run-requires c κs = let s = short-run Heads (c .before .before .before .before .before .before .args .lead) _ (c .before .before .before .before .before .before .pre .1) refl in (c .before .before .before .before .before .before .pre .0, s .0, s .1)
 
 same-length : tie.Need-same-length
 same-length c = search needs
 
 returns-2 : tie.Need-returns-2
-unfolding repeated
-returns-2 c = c .before .before .put-repeated .ensures
+unfolding repeated runOf
+returns-2 c = of-run _ _ Heads _ _ refl (c .before .before .put-run .ensures)
 
 pub put-heads-spec : {M : Type 1} → statement M
-put-heads-spec = tie.close (tie.spec returns put-repeated-requires same-length returns-2)
+put-heads-spec = tie.close (tie.spec returns put-run-requires same-length returns-2)

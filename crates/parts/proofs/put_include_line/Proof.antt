@@ -4,11 +4,6 @@ use Rattle.parts.specs.Draws.{both, of-byte}
 use borrow.Author.Needs.{needs}
 use Rattle.parts.proofs.put_include_line.Statement.{statement}
 use Rattle.parts.proofs.put_include_line.Tie as tie
-use Rattle.parts.proofs.put_include_line.Reads as reads
-use Rattle.parts.proofs.put_include_line.Lts as lts
-use Rattle.parts.proofs.put_directive.Reads as put-directive-reads
-use Rattle.parts.proofs.put_remark.Reads as put-remark-reads
-use Rattle.pen.proofs.Writer.byte.Reads as byte-reads
 
 -- src/lib.rt:354:9
 put-directive-requires : tie.Need-put-directive-requires

@@ -2,10 +2,6 @@ use Rattle.parts.proofs.Laws.{no-prop, some-prop}
 use borrow.Author.Needs.{needs}
 use Rattle.parts.proofs.put_prop.Statement.{statement}
 use Rattle.parts.proofs.put_prop.Tie as tie
-use Rattle.parts.proofs.put_prop.Reads as reads
-use Rattle.parts.proofs.put_prop.Lts as lts
-use Rattle.deck.proofs.words_of.Reads as words-of-reads
-use Rattle.pen.proofs.Writer.text.Reads as text-reads
 
 -- src/lib.rt:199:9
 returns : tie.Need-returns

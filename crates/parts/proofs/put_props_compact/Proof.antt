@@ -7,8 +7,8 @@ use borrow.Author.Needs.{needs}
 use Rattle.parts.proofs.put_props_compact.Statement.{statement}
 use Rattle.parts.proofs.put_props_compact.Tie as tie
 
-has-props-requires : tie.Need-has-props-requires
-has-props-requires c κs = search needs
+is-either-requires : tie.Need-is-either-requires
+is-either-requires c κs = search needs
 
 slice-aggregate-put-both : tie.Need-slice-aggregate-put-both
 slice-aggregate-put-both c = search needs
@@ -31,13 +31,13 @@ returns c = c .before .before .put-both .ensures
 
 returns-2 : tie.Need-returns-2
 unfolding propsCompact propsBy broughtOf
-returns-2 c = no-props _ _ _ _ _ _ _ _ (c .before .has-props .ensures) (c .if1 .left)
+returns-2 c = no-props _ _ _ _ _ _ _ _ (c .before .is-either .ensures) (c .if1 .left)
 
 pub put-props-compact-spec : {M : Type 1} → statement M
 put-props-compact-spec =
     tie.close
     (tie.spec
-    has-props-requires
+    is-either-requires
     slice-aggregate-put-both
     slice-aggregate-put-both-2
     slice-aggregate-put-both-3

@@ -8,16 +8,10 @@ use Rattle.parts.specs.Draws.{draws-yes, draws-no, stays, both, of-byte}
 use borrow.Author.Needs.{needs}
 use Rattle.parts.proofs.put_props_line.Statement.{statement}
 use Rattle.parts.proofs.put_props_line.Tie as tie
-use Rattle.parts.proofs.put_props_line.Reads as reads
-use Rattle.parts.proofs.put_props_line.Lts as lts
-use Rattle.parts.proofs.has_props.Reads as has-props-reads
-use Rattle.parts.proofs.put_prop.Reads as put-prop-reads
-use Rattle.parts.proofs.put_tag_first.Reads as put-tag-first-reads
-use Rattle.pen.proofs.Writer.byte.Reads as byte-reads
 
 -- src/lib.rt:310:8
-has-props-requires : tie.Need-has-props-requires
-has-props-requires c κs = search needs
+is-either-requires : tie.Need-is-either-requires
+is-either-requires c κs = search needs
 
 -- src/lib.rt:311:13
 put-tag-first-requires : tie.Need-put-tag-first-requires
@@ -46,18 +40,18 @@ same-length c = search needs
 -- src/lib.rt:313:9
 returns : tie.Need-returns
 unfolding propsLine newline tagFirst broughtOf
-returns c = draws-yes _ _ _ (has-props-is (c .before .before .before .before .before .before .before .before .before .before .before .before .before .before .before .before .before .before .before .args .deck .now) (c .before .before .before .before .before .before .before .before .before .before .before .before .before .before .before .before .before .before .before .args .pool .now) (c .before .before .before .before .before .before .before .before .before .before .before .before .before .before .before .before .before .before .before .args .lead) ∙ sym (c .before .before .before .before .before .before .before .before .before .before .before .before .before .before .before .has-props .ensures) ∙ c .before .before .before .before .before .before .before .before .before .before .before .before .before .before .if1 .taken) (both _ _ (c .before .before .before .before .before .before .before .before .before .before .before .before .put-tag-first .ensures) (both _ _ (c .before .before .before .before .before .before .put-prop .ensures) (of-byte space _ (c .before .before .byte .ensures))))
+returns c = draws-yes _ _ _ (has-props-is (c .before .before .before .before .before .before .before .before .before .before .before .before .before .before .before .before .before .before .before .args .deck .now) (c .before .before .before .before .before .before .before .before .before .before .before .before .before .before .before .before .before .before .before .args .pool .now) (c .before .before .before .before .before .before .before .before .before .before .before .before .before .before .before .before .before .before .before .args .lead) ∙ sym (c .before .before .before .before .before .before .before .before .before .before .before .before .before .before .before .is-either .ensures) ∙ c .before .before .before .before .before .before .before .before .before .before .before .before .before .before .if1 .taken) (both _ _ (c .before .before .before .before .before .before .before .before .before .before .before .before .put-tag-first .ensures) (both _ _ (c .before .before .before .before .before .before .put-prop .ensures) (of-byte space _ (c .before .before .byte .ensures))))
 
 -- src/lib.rt:306:1
 returns-2 : tie.Need-returns-2
 unfolding propsLine newline tagFirst broughtOf
-returns-2 c = draws-no _ _ _ (has-props-is (c .before .before .before .before .before .args .deck .now) (c .before .before .before .before .before .args .pool .now) (c .before .before .before .before .before .args .lead) ∙ sym (c .before .has-props .ensures) ∙ c .if1 .left) stays
+returns-2 c = draws-no _ _ _ (has-props-is (c .before .before .before .before .before .args .deck .now) (c .before .before .before .before .before .args .pool .now) (c .before .before .before .before .before .args .lead) ∙ sym (c .before .is-either .ensures) ∙ c .if1 .left) stays
 
 pub put-props-line-spec : {M : Type 1} → statement M
 put-props-line-spec =
     tie.close
     (tie.spec
-    has-props-requires
+    is-either-requires
     put-tag-first-requires
     slice-aggregate-put-prop
     slice-aggregate-put-prop-2

@@ -1,12 +1,7 @@
 use Rattle.parts.proofs.Laws.{no-remark, some-remark}
-use borrow.Author.Tests.{eq-eqb, ne-eqb}
 use borrow.Author.Needs.{needs}
 use Rattle.parts.proofs.put_remark.Statement.{statement}
 use Rattle.parts.proofs.put_remark.Tie as tie
-use Rattle.parts.proofs.put_remark.Reads as reads
-use Rattle.parts.proofs.put_remark.Lts as lts
-use Rattle.deck.proofs.words_of.Reads as words-of-reads
-use Rattle.pen.proofs.Writer.comment.Reads as comment-reads
 
 -- src/lib.rt:230:9
 returns : tie.Need-returns

@@ -9,10 +9,6 @@ use Rattle.parts.specs.Runs.{entries, stride}
 use Rattle.parts.proofs.Laws.{Level, turn, done}
 use Rattle.parts.proofs.put_run.Statement.{statement}
 use Rattle.parts.proofs.put_run.Tie as tie
-use Rattle.parts.proofs.put_run.Reads as reads
-use Rattle.parts.proofs.put_run.Lts as lts
-use Rattle.parts.proofs.put_entry.Reads as put-entry-reads
-use Rattle.parts.proofs.stride_of.Reads as stride-of-reads
 
 abbrev Inv-loop : tie.InvT-loop
 Inv-loop deck pool out₀ e indent step u₀ here₀ left₀ out u here left = Level (entries deck pool e indent left here) (pen u out) (entries deck pool e indent left₀ here₀) (pen u₀ out₀)

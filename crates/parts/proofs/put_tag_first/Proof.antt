@@ -2,9 +2,6 @@ use Rattle.parts.proofs.Laws.{alone, followed}
 use borrow.Author.Needs.{needs}
 use Rattle.parts.proofs.put_tag_first.Statement.{statement}
 use Rattle.parts.proofs.put_tag_first.Tie as tie
-use Rattle.parts.proofs.put_tag_first.Reads as reads
-use Rattle.parts.proofs.put_tag_first.Lts as lts
-use Rattle.parts.proofs.put_prop.Reads as put-prop-reads
 
 -- src/lib.rt:300:39
 slice-aggregate-put-prop : tie.Need-slice-aggregate-put-prop

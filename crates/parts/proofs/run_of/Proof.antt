@@ -2,8 +2,6 @@ use Rattle.parts.specs.Runs.{runOf}
 use borrow.Author.Needs.{needs}
 use Rattle.parts.proofs.run_of.Statement.{statement}
 use Rattle.parts.proofs.run_of.Tie as tie
-use Rattle.parts.proofs.run_of.Reads as reads
-use Rattle.parts.proofs.run_of.Lts as lts
 
 -- src/lib.rt:183:27
 enum-told : tie.Need-enum-told

@@ -1,11 +1,8 @@
 use Rattle.parts.specs.Runs.{stride}
 use native.Mathlib.Omega.{arith}
-use mathlib.Core.Path.{refl}
 use borrow.Author.Needs.{needs}
 use Rattle.parts.proofs.stride_of.Statement.{statement}
 use Rattle.parts.proofs.stride_of.Tie as tie
-use Rattle.parts.proofs.stride_of.Reads as reads
-use Rattle.parts.proofs.stride_of.Lts as lts
 
 -- src/lib.rt:146:27
 enum-told : tie.Need-enum-told

@@ -2,10 +2,6 @@ use Rattle.node.specs.Total.{textOf}
 use borrow.Author.Needs.{needs}
 use Rattle.parts.proofs.text_of.Statement.{statement}
 use Rattle.parts.proofs.text_of.Tie as tie
-use Rattle.parts.proofs.text_of.Reads as reads
-use Rattle.parts.proofs.text_of.Lts as lts
-use Rattle.deck.proofs.text_only.Reads as text-only-reads
-use Rattle.deck.proofs.words_of.Reads as words-of-reads
 
 -- src/lib.rt:58:29
 add-t5 : tie.Need-add-t5

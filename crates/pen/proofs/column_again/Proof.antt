@@ -1,15 +1,12 @@
 -- `pen::column_again` meets its contract.
 use borrow.Author.Needs.{needs}
-use mathlib.Core.Path.{_≡_, refl}
+use mathlib.Core.Path.{_≡_}
 use native.Mathlib.Omega.{arith}
 use lib.ListN.{replicate}
 use Rattle.pen.specs.Pen.{columnOver}
 use Rattle.pen.proofs.Texts.{no-column, column-again}
 use Rattle.pen.proofs.column_again.Statement.{statement}
 use Rattle.pen.proofs.column_again.Tie as tie
-use Rattle.pen.proofs.column_again.Reads as reads
-use Rattle.pen.proofs.column_again.Lts as lts
-use Rattle.pen.proofs.next_column.Reads as next-column-reads
 
 abbrev Inv-loop : tie.InvT-loop
 Inv-loop tracks column most b n c₀ left₀ c left = columnOver tracks most c (replicate left b) ≡ columnOver tracks most column (replicate n b)

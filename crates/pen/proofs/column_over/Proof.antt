@@ -1,15 +1,12 @@
 -- `pen::column_over` meets its contract.
 use borrow.Author.Needs.{needs}
-use mathlib.Core.Path.{_≡_, refl}
+use mathlib.Core.Path.{_≡_}
 use Prim.Native.Nat.{_-_, _≤_}
 use lib.ListN.{length, drop, drop-of-length-le}
 use Rattle.pen.specs.Pen.{columnOver}
 use Rattle.pen.proofs.Texts.{no-column, column-on}
 use Rattle.pen.proofs.column_over.Statement.{statement}
 use Rattle.pen.proofs.column_over.Tie as tie
-use Rattle.pen.proofs.column_over.Reads as reads
-use Rattle.pen.proofs.column_over.Lts as lts
-use Rattle.pen.proofs.next_column.Reads as next-column-reads
 
 abbrev Inv-loop : tie.InvT-loop
 Inv-loop tracks column most t c₀ i₀ c i = (columnOver tracks most c (drop i t) ≡ columnOver tracks most column t) × (i ≤ length t)

@@ -8,8 +8,6 @@ use lib.Seq.{sets}
 use Rattle.pen.proofs.Texts.{store-start, stored}
 use Rattle.pen.proofs.copy_to.Statement.{statement}
 use Rattle.pen.proofs.copy_to.Tie as tie
-use Rattle.pen.proofs.copy_to.Reads as reads
-use Rattle.pen.proofs.copy_to.Lts as lts
 
 abbrev Inv-loop : tie.InvT-loop
 Inv-loop out₀ at t i₀ out i = (sets out (at + i) (drop i t) ≡ sets out₀ at t) × (i ≤ length t) × (length out ≡ length out₀)

@@ -4,8 +4,6 @@ use Rattle.pen.proofs.Laws.{nothing-open, last-closed}
 use borrow.Author.Needs.{needs}
 use Rattle.pen.proofs.ends_closed.Statement.{statement}
 use Rattle.pen.proofs.ends_closed.Tie as tie
-use Rattle.pen.proofs.ends_closed.Reads as reads
-use Rattle.pen.proofs.ends_closed.Lts as lts
 
 -- src/lib.rt:202:9
 returns : tie.Need-returns

@@ -8,8 +8,6 @@ use lib.Seq.{sets}
 use Rattle.pen.proofs.Texts.{fill-start, filled}
 use Rattle.pen.proofs.fill.Statement.{statement}
 use Rattle.pen.proofs.fill.Tie as tie
-use Rattle.pen.proofs.fill.Reads as reads
-use Rattle.pen.proofs.fill.Lts as lts
 
 abbrev Inv-loop : tie.InvT-loop
 Inv-loop out₀ at b n i₀ out i = (sets out (at + i) (replicate (n - i) b) ≡ sets out₀ at (replicate n b)) × (i ≤ n) × (length out ≡ length out₀)

@@ -1,11 +1,8 @@
 -- `pen::has_room` meets its contract.
-use borrow.Author.Needs.{needs}
 use mathlib.Core.Bool.{false≢true}
 use Rattle.pen.proofs.Texts.{enough}
 use Rattle.pen.proofs.has_room.Statement.{statement}
 use Rattle.pen.proofs.has_room.Tie as tie
-use Rattle.pen.proofs.has_room.Reads as reads
-use Rattle.pen.proofs.has_room.Lts as lts
 
 -- src/lib.rt:96:9
 returns : tie.Need-returns

@@ -3,9 +3,6 @@ use borrow.Author.Tests.{eq-eqb, ne-eqb}
 use borrow.Author.Needs.{needs}
 use Rattle.pen.proofs.next_column.Statement.{statement}
 use Rattle.pen.proofs.next_column.Tie as tie
-use Rattle.pen.proofs.next_column.Reads as reads
-use Rattle.pen.proofs.next_column.Lts as lts
-use Rattle.pen.proofs.up_to.Reads as up-to-reads
 
 -- src/lib.rt:52:9
 returns : tie.Need-returns

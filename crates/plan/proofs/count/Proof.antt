@@ -1,6 +1,6 @@
 use native.Mathlib.Omega.{arith}
 use Rattle.definition.specs.Change.{collect}
-use borrow.Author.Tests.{eq-eqb, ne-eqb, lt-ltb, le-ltb}
+use borrow.Author.Tests.{lt-ltb, le-ltb}
 use Rattle.plan.specs.Plan.{early, front, onward, counted}
 use borrow.Author.Needs.{needs}
 use Rattle.plan.proofs.count.Statement.{statement}

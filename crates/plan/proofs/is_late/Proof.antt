@@ -1,4 +1,4 @@
-use borrow.Author.Tests.{eq-eqb, ne-eqb, lt-ltb, le-ltb}
+use borrow.Author.Tests.{eq-eqb, ne-eqb}
 use Rattle.plan.specs.Plan.{isLate}
 use Rattle.plan.proofs.is_late.Statement.{statement}
 use Rattle.plan.proofs.is_late.Tie as tie

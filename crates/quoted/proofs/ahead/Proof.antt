@@ -1,6 +1,6 @@
 -- `quoted::ahead` meets its contract.
 use borrow.Author.Needs.{needs}
-use mathlib.Core.Path.{_≡_, refl, sym, _∙_}
+use mathlib.Core.Path.{_≡_, sym, _∙_}
 use mathlib.Core.Bool.{true}
 use Prim.Native.Nat.{_+_, _*_, _-_, _≤_}
 use lib.ListN.{length, drop}
@@ -10,10 +10,6 @@ use Rattle.laws.specs.Folded.{aheadOf}
 use Rattle.quoted.proofs.Folds.{measured-stop, measured-end}
 use Rattle.quoted.proofs.ahead.Statement.{statement}
 use Rattle.quoted.proofs.ahead.Tie as tie
-use Rattle.quoted.proofs.ahead.Reads as reads
-use Rattle.quoted.proofs.ahead.Lts as lts
-use Rattle.quoted.proofs.breakable_at.Reads as breakable-at-reads
-use Rattle.quoted.proofs.scan_turn.Reads as scan-turn-reads
 
 abbrev Inv-loop : tie.InvT-loop
 Inv-loop t from single g₀ g = (g .n + aheadOf (quoteBy single) (λ b. 1) 0 (g .after) (drop (g .at) t) ≡ aheadOf (quoteBy single) (λ b. 1) 0 true (drop from t)) × (g .n ≤ 6 * g .at) × (g .at ≤ length t + 2)

@@ -4,12 +4,6 @@ use Rattle.quoted.proofs.Laws.{run-written}
 use borrow.Author.Needs.{needs}
 use Rattle.quoted.proofs.body_turn.Statement.{statement}
 use Rattle.quoted.proofs.body_turn.Tie as tie
-use Rattle.quoted.proofs.body_turn.Reads as reads
-use Rattle.quoted.proofs.body_turn.Lts as lts
-use Rattle.pen.proofs.Writer.text.Reads as text-reads
-use Rattle.quoted.proofs.piece_turn.Reads as piece-turn-reads
-use Rattle.quoted.proofs.quote_of.Reads as quote-of-reads
-use Rattle.quoted.proofs.run_end.Reads as run-end-reads
 
 -- src/lib.rt:302:27
 quote-of-requires : tie.Need-quote-of-requires

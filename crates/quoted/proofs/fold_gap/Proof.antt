@@ -6,11 +6,6 @@ use Rattle.quoted.proofs.Folds.{fold-broken, fold-kept}
 use borrow.Author.Needs.{needs}
 use Rattle.quoted.proofs.fold_gap.Statement.{statement}
 use Rattle.quoted.proofs.fold_gap.Tie as tie
-use Rattle.quoted.proofs.fold_gap.Reads as reads
-use Rattle.quoted.proofs.fold_gap.Lts as lts
-use Rattle.pen.proofs.Writer.byte.Reads as byte-reads
-use Rattle.pen.proofs.Writer.spaces.Reads as spaces-reads
-use Rattle.quoted.proofs.ahead.Reads as ahead-reads
 
 -- src/lib.rt:423:16
 add-need : tie.Need-add-need

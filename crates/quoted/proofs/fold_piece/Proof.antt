@@ -5,12 +5,6 @@ use Rattle.quoted.proofs.Folds.{fold-on}
 use borrow.Author.Needs.{needs}
 use Rattle.quoted.proofs.fold_piece.Statement.{statement}
 use Rattle.quoted.proofs.fold_piece.Tie as tie
-use Rattle.quoted.proofs.fold_piece.Reads as reads
-use Rattle.quoted.proofs.fold_piece.Lts as lts
-use Rattle.quoted.proofs.columns.Reads as columns-reads
-use Rattle.quoted.proofs.others.Reads as others-reads
-use Rattle.quoted.proofs.piece_at.Reads as piece-at-reads
-use Rattle.quoted.proofs.put_piece.Reads as put-piece-reads
 
 -- src/lib.rt:450:9
 piece-at-requires : tie.Need-piece-at-requires

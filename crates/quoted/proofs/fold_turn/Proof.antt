@@ -5,13 +5,6 @@ use Rattle.quoted.proofs.Folds.{fold-run}
 use borrow.Author.Needs.{needs}
 use Rattle.quoted.proofs.fold_turn.Statement.{statement}
 use Rattle.quoted.proofs.fold_turn.Tie as tie
-use Rattle.quoted.proofs.fold_turn.Reads as reads
-use Rattle.quoted.proofs.fold_turn.Lts as lts
-use Rattle.pen.proofs.Writer.text.Reads as text-reads
-use Rattle.quoted.proofs.breakable_at.Reads as breakable-at-reads
-use Rattle.quoted.proofs.fold_gap.Reads as fold-gap-reads
-use Rattle.quoted.proofs.fold_piece.Reads as fold-piece-reads
-use Rattle.quoted.proofs.run_end.Reads as run-end-reads
 
 -- src/lib.rt:466:9
 run-end-requires : tie.Need-run-end-requires

@@ -2,11 +2,10 @@
 use Rattle.quoted.proofs.Folds.{breaks-here, breaks-on}
 use Rattle.definition.specs.Fold.{breakableIn, hasBreakable}
 use lib.ListN.{length, drop, drop-of-length-le}
-use mathlib.Core.Bool.{true, false}
+use mathlib.Core.Bool.{true}
 use borrow.Author.Needs.{needs}
-use native.Mathlib.Omega.{arith}
-use Prim.Native.Nat.{ℕ, _+_, _*_, _≤_, _-_, max}
-use mathlib.Core.Path.{_≡_, refl, sym, ap, _∙_}
+use Prim.Native.Nat.{_≤_, _-_}
+use mathlib.Core.Path.{_≡_, sym, _∙_}
 use Rattle.quoted.proofs.has_breakable.Statement.{statement}
 use Rattle.quoted.proofs.has_breakable.Tie as tie
 

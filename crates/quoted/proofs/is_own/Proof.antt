@@ -1,11 +1,8 @@
 -- `quoted::is_own` meets its contract.
-use borrow.Author.Needs.{needs}
 use mathlib.Core.Bool.{false≢true}
 use Rattle.quoted.proofs.Laws.{own-single, own-double}
 use Rattle.quoted.proofs.is_own.Statement.{statement}
 use Rattle.quoted.proofs.is_own.Tie as tie
-use Rattle.quoted.proofs.is_own.Reads as reads
-use Rattle.quoted.proofs.is_own.Lts as lts
 
 -- src/lib.rt:232:9
 returns : tie.Need-returns

@@ -4,11 +4,6 @@ use Rattle.quoted.proofs.Laws.{turn, beside-few}
 use borrow.Author.Needs.{needs}
 use Rattle.quoted.proofs.piece_turn.Statement.{statement}
 use Rattle.quoted.proofs.piece_turn.Tie as tie
-use Rattle.quoted.proofs.piece_turn.Reads as reads
-use Rattle.quoted.proofs.piece_turn.Lts as lts
-use Rattle.quoted.proofs.others.Reads as others-reads
-use Rattle.quoted.proofs.piece_at.Reads as piece-at-reads
-use Rattle.quoted.proofs.put_piece.Reads as put-piece-reads
 
 -- src/lib.rt:290:9
 piece-at-requires : tie.Need-piece-at-requires

@@ -8,9 +8,6 @@ use Rattle.laws.specs.Pieces.{quoteBy, body}
 use Rattle.pen.specs.Pen.{pen, puts}
 use Rattle.quoted.proofs.put_body.Statement.{statement}
 use Rattle.quoted.proofs.put_body.Tie as tie
-use Rattle.quoted.proofs.put_body.Reads as reads
-use Rattle.quoted.proofs.put_body.Lts as lts
-use Rattle.quoted.proofs.body_turn.Reads as body-turn-reads
 
 abbrev Inv-loop : tie.InvT-loop
 Inv-loop out₀ t single g₀ out g = (puts (body (quoteBy single) 0 (drop (g .at) t)) (pen (g .w) out) ≡ puts (body (quoteBy single) 0 t) (pen (g₀ .w) out₀)) × (length out ≡ length out₀)

@@ -1,5 +1,4 @@
 -- `quoted::put_folded` meets its contract.
-use borrow.Author.Needs.{needs}
 use mathlib.Core.Path.{_≡_, refl, _∙_}
 use mathlib.Core.Bool.{true}
 use Prim.Native.Nat.{_+_, _*_, _-_, _≤_, max}
@@ -11,9 +10,6 @@ use Rattle.pen.specs.Pen.{pen, puts}
 use Rattle.quoted.specs.Piece.{folding}
 use Rattle.quoted.proofs.put_folded.Statement.{statement}
 use Rattle.quoted.proofs.put_folded.Tie as tie
-use Rattle.quoted.proofs.put_folded.Reads as reads
-use Rattle.quoted.proofs.put_folded.Lts as lts
-use Rattle.quoted.proofs.fold_turn.Reads as fold-turn-reads
 
 abbrev Inv-loop : tie.InvT-loop
 Inv-loop out₀ t single start f l₀ out l = (puts (foldedOf (quoteBy single) (folding f) 0 (l .after) (l .col) (drop (l .at) t)) (pen (l .w) out) ≡ puts (foldedOf (quoteBy single) (folding f) 0 true start t) (pen (l₀ .w) out₀)) × (length out ≡ length out₀) × (l .col ≤ max start (f .indent) + 6 * l .at)

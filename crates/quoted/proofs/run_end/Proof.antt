@@ -8,9 +8,6 @@ use Rattle.pen.specs.Runs.{Run, run-start, run-on}
 use Rattle.quoted.specs.Piece.{Own}
 use Rattle.quoted.proofs.run_end.Statement.{statement}
 use Rattle.quoted.proofs.run_end.Tie as tie
-use Rattle.quoted.proofs.run_end.Reads as reads
-use Rattle.quoted.proofs.run_end.Lts as lts
-use Rattle.quoted.proofs.is_own.Reads as is-own-reads
 
 abbrev Inv-loop : tie.InvT-loop
 Inv-loop t from stop single i₀ i = Run (Own (quoteBy single) stop) t from i

@@ -5,12 +5,6 @@ use Rattle.quoted.proofs.Folds.{measured-piece, measured-run}
 use borrow.Author.Needs.{needs}
 use Rattle.quoted.proofs.scan_turn.Statement.{statement}
 use Rattle.quoted.proofs.scan_turn.Tie as tie
-use Rattle.quoted.proofs.scan_turn.Reads as reads
-use Rattle.quoted.proofs.scan_turn.Lts as lts
-use Rattle.quoted.proofs.columns.Reads as columns-reads
-use Rattle.quoted.proofs.others.Reads as others-reads
-use Rattle.quoted.proofs.piece_at.Reads as piece-at-reads
-use Rattle.quoted.proofs.run_end.Reads as run-end-reads
 
 -- src/lib.rt:373:9
 run-end-requires : tie.Need-run-end-requires

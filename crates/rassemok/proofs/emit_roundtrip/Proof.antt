@@ -4,10 +4,6 @@ use Rattle.writing.specs.Written.{written}
 use borrow.Author.Needs.{needs}
 use Rattle.rassemok.proofs.emit_roundtrip.Statement.{statement}
 use Rattle.rassemok.proofs.emit_roundtrip.Tie as tie
-use Rattle.rassemok.proofs.emit_roundtrip.Reads as reads
-use Rattle.rassemok.proofs.emit_roundtrip.Lts as lts
-use Rattle.rassemok.proofs.null_as.Reads as null-as-reads
-use Rattle.writing.proofs.write.Reads as write-reads
 
 -- src/lib.rt:236:9
 null-as-requires : tie.Need-null-as-requires

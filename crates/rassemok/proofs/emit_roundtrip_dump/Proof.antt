@@ -3,9 +3,6 @@ use Rattle.writing.specs.Written.{written}
 use borrow.Author.Needs.{needs}
 use Rattle.rassemok.proofs.emit_roundtrip_dump.Statement.{statement}
 use Rattle.rassemok.proofs.emit_roundtrip_dump.Tie as tie
-use Rattle.rassemok.proofs.emit_roundtrip_dump.Reads as reads
-use Rattle.rassemok.proofs.emit_roundtrip_dump.Lts as lts
-use Rattle.writing.proofs.write.Reads as write-reads
 
 -- src/lib.rt:272:5
 write-requires : tie.Need-write-requires

@@ -3,10 +3,6 @@ use Rattle.writing.specs.Written.{written}
 use borrow.Author.Needs.{needs}
 use Rattle.rassemok.proofs.emit_roundtrip_with.Statement.{statement}
 use Rattle.rassemok.proofs.emit_roundtrip_with.Tie as tie
-use Rattle.rassemok.proofs.emit_roundtrip_with.Reads as reads
-use Rattle.rassemok.proofs.emit_roundtrip_with.Lts as lts
-use Rattle.rassemok.proofs.null_as.Reads as null-as-reads
-use Rattle.writing.proofs.write.Reads as write-reads
 
 -- src/lib.rt:248:9
 null-as-requires : tie.Need-null-as-requires

@@ -1,9 +1,6 @@
-use borrow.Author.Tests.{eq-eqb, ne-eqb}
 use Rattle.rassemok.specs.Options.{isOn}
 use Rattle.rassemok.proofs.is_on.Statement.{statement}
 use Rattle.rassemok.proofs.is_on.Tie as tie
-use Rattle.rassemok.proofs.is_on.Reads as reads
-use Rattle.rassemok.proofs.is_on.Lts as lts
 
 -- src/lib.rt:287:1
 returns : tie.Need-returns

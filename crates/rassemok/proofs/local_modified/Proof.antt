@@ -9,12 +9,6 @@ use Rattle.told.specs.Outcome.{Judged, modified-judged, lent}
 use borrow.Author.Needs.{needs}
 use Rattle.rassemok.proofs.local_modified.Statement.{statement}
 use Rattle.rassemok.proofs.local_modified.Tie as tie
-use Rattle.rassemok.proofs.local_modified.Reads as reads
-use Rattle.rassemok.proofs.local_modified.Lts as lts
-use Rattle.answers.proofs.admit.Reads as admit-reads
-use Rattle.answers.proofs.refuse.Reads as refuse-reads
-use Rattle.rassemok.proofs.look.Reads as look-reads
-use Rattle.rassemok.proofs.null_as.Reads as null-as-reads
 
 -- src/lib.rt:185:9
 null-as-requires : tie.Need-null-as-requires

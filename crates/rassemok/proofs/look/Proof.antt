@@ -3,10 +3,6 @@ use Rattle.rassemok.proofs.Laws.{not-one-looked, one-looked}
 use borrow.Author.Needs.{needs}
 use Rattle.rassemok.proofs.look.Statement.{statement}
 use Rattle.rassemok.proofs.look.Tie as tie
-use Rattle.rassemok.proofs.look.Reads as reads
-use Rattle.rassemok.proofs.look.Lts as lts
-use Rattle.answers.proofs.refuse.Reads as refuse-reads
-use Rattle.modified.proofs.local_modified.Reads as local-modified-reads
 
 -- src/lib.rt:169:9
 refuse-requires : tie.Need-refuse-requires

@@ -1,8 +1,6 @@
 use Rattle.definition.specs.Settings.{nullAs}
 use Rattle.rassemok.proofs.null_as.Statement.{statement}
 use Rattle.rassemok.proofs.null_as.Tie as tie
-use Rattle.rassemok.proofs.null_as.Reads as reads
-use Rattle.rassemok.proofs.null_as.Lts as lts
 
 -- src/lib.rt:219:1
 returns : tie.Need-returns

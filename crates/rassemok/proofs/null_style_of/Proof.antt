@@ -2,8 +2,6 @@ use borrow.Author.Tests.{eq-eqb, ne-eqb}
 use Rattle.rassemok.specs.Options.{nullStyleOf}
 use Rattle.rassemok.proofs.null_style_of.Statement.{statement}
 use Rattle.rassemok.proofs.null_style_of.Tie as tie
-use Rattle.rassemok.proofs.null_style_of.Reads as reads
-use Rattle.rassemok.proofs.null_style_of.Lts as lts
 
 -- src/lib.rt:279:9
 returns : tie.Need-returns

@@ -1,10 +1,6 @@
 use borrow.Author.Needs.{needs}
 use Rattle.rassemok.proofs.rassemok_emit_roundtrip_all_with.Statement.{statement}
 use Rattle.rassemok.proofs.rassemok_emit_roundtrip_all_with.Tie as tie
-use Rattle.rassemok.proofs.rassemok_emit_roundtrip_all_with.Reads as reads
-use Rattle.rassemok.proofs.rassemok_emit_roundtrip_all_with.Lts as lts
-use Rattle.rassemok.proofs.emit_roundtrip_all_with.Reads as emit-roundtrip-all-with-reads
-use Rattle.rassemok.proofs.null_style_of.Reads as null-style-of-reads
 
 -- src/lib.rt:338:9
 null-style-of-requires : tie.Need-null-style-of-requires

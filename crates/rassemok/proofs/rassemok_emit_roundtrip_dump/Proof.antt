@@ -1,10 +1,6 @@
 use borrow.Author.Needs.{needs}
 use Rattle.rassemok.proofs.rassemok_emit_roundtrip_dump.Statement.{statement}
 use Rattle.rassemok.proofs.rassemok_emit_roundtrip_dump.Tie as tie
-use Rattle.rassemok.proofs.rassemok_emit_roundtrip_dump.Reads as reads
-use Rattle.rassemok.proofs.rassemok_emit_roundtrip_dump.Lts as lts
-use Rattle.rassemok.proofs.emit_roundtrip_dump.Reads as emit-roundtrip-dump-reads
-use Rattle.rassemok.proofs.settings_of.Reads as settings-of-reads
 
 -- src/lib.rt:351:9
 settings-of-requires : tie.Need-settings-of-requires

@@ -2,10 +2,6 @@ use Rattle.rassemok.specs.Options.{settingsOf}
 use borrow.Author.Needs.{needs}
 use Rattle.rassemok.proofs.settings_of.Statement.{statement}
 use Rattle.rassemok.proofs.settings_of.Tie as tie
-use Rattle.rassemok.proofs.settings_of.Reads as reads
-use Rattle.rassemok.proofs.settings_of.Lts as lts
-use Rattle.rassemok.proofs.is_on.Reads as is-on-reads
-use Rattle.rassemok.proofs.null_style_of.Reads as null-style-of-reads
 
 -- src/lib.rt:296:9
 null-style-of-requires : tie.Need-null-style-of-requires

@@ -1,17 +1,20 @@
 -- `scalar::put_block` meets its contract.
+use Rattle.definition.specs.Settings.{folds}
+use Rattle.laws.specs.Leaf.{styledAt}
 use Rattle.pen.specs.Pen.{and-then}
 use borrow.Author.Needs.{needs}
 use Rattle.scalar.proofs.put_block.Statement.{statement}
 use Rattle.scalar.proofs.put_block.Tie as tie
 
-put-quoted-requires : tie.Need-put-quoted-requires
-put-quoted-requires c κs = search needs
+put-styled-requires : tie.Need-put-styled-requires
+put-styled-requires c κs = search needs
 
 same-length : tie.Need-same-length
 same-length c = search needs
 
 returns : tie.Need-returns
-returns c = rw (c .before .before .before .before .if1 .taken) (c .before .before .put-quoted .ensures)
+unfolding folds styledAt
+returns c = rw (c .before .before .before .before .if1 .taken) (c .before .before .put-styled .ensures)
 
 put-header-requires : tie.Need-put-header-requires
 put-header-requires c κs = search needs
@@ -29,7 +32,7 @@ pub put-block-spec : {M : Type 1} → statement M
 put-block-spec =
     tie.close
     (tie.spec
-    put-quoted-requires
+    put-styled-requires
     same-length
     returns
     put-header-requires

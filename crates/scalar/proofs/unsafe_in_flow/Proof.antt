@@ -4,7 +4,7 @@ use Rattle.scalar.specs.Tests.{someAt, unsafeAt}
 use Rattle.scalar.proofs.Laws.{found, passed, unsafe-by}
 use lib.ListN.{length, drop, drop-of-length-le}
 use Prim.Native.Nat.{_≤_, _-_}
-use mathlib.Core.Path.{_≡_, sym, ap, _∙_}
+use mathlib.Core.Path.{_≡_, sym, _∙_}
 use Rattle.scalar.proofs.unsafe_in_flow.Statement.{statement}
 use Rattle.scalar.proofs.unsafe_in_flow.Tie as tie
 

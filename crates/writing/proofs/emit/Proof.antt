@@ -4,11 +4,6 @@ use Rattle.writing.proofs.Laws.{not-one}
 use borrow.Author.Needs.{needs}
 use Rattle.writing.proofs.emit.Statement.{statement}
 use Rattle.writing.proofs.emit.Tie as tie
-use Rattle.writing.proofs.emit.Reads as reads
-use Rattle.writing.proofs.emit.Lts as lts
-use Rattle.writing.proofs.emit_all.Reads as emit-all-reads
-use Rattle.writing.proofs.emit_one.Reads as emit-one-reads
-use Rattle.answers.proofs.refuse.Reads as refuse-reads
 
 -- src/lib.rt:195:9
 emit-all-requires : tie.Need-emit-all-requires

@@ -3,11 +3,6 @@ use Rattle.writing.proofs.Laws.{begin-at, all-answered}
 use borrow.Author.Needs.{needs}
 use Rattle.writing.proofs.emit_all.Statement.{statement}
 use Rattle.writing.proofs.emit_all.Tie as tie
-use Rattle.writing.proofs.emit_all.Reads as reads
-use Rattle.writing.proofs.emit_all.Lts as lts
-use Rattle.document.proofs.fresh_writer.Reads as fresh-writer-reads
-use Rattle.writing.proofs.settle.Reads as settle-reads
-use Rattle.document.proofs.write_all.Reads as write-all-reads
 
 -- src/lib.rt:177:9
 fresh-writer-requires : tie.Need-fresh-writer-requires

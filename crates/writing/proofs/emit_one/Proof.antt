@@ -3,11 +3,6 @@ use Rattle.writing.proofs.Laws.{begin-at, one-answered}
 use borrow.Author.Needs.{needs}
 use Rattle.writing.proofs.emit_one.Statement.{statement}
 use Rattle.writing.proofs.emit_one.Tie as tie
-use Rattle.writing.proofs.emit_one.Reads as reads
-use Rattle.writing.proofs.emit_one.Lts as lts
-use Rattle.document.proofs.fresh_writer.Reads as fresh-writer-reads
-use Rattle.writing.proofs.settle.Reads as settle-reads
-use Rattle.document.proofs.write_one.Reads as write-one-reads
 
 -- src/lib.rt:161:9
 fresh-writer-requires : tie.Need-fresh-writer-requires

@@ -1,13 +1,8 @@
-use native.Mathlib.Omega.{arith}
 use mathlib.Core.Path.{refl}
 use Rattle.writing.proofs.Laws.{tells-over, tells-fits}
 use borrow.Author.Needs.{needs}
 use Rattle.writing.proofs.settle.Statement.{statement}
 use Rattle.writing.proofs.settle.Tie as tie
-use Rattle.writing.proofs.settle.Reads as reads
-use Rattle.writing.proofs.settle.Lts as lts
-use Rattle.answers.proofs.clear.Reads as clear-reads
-use Rattle.answers.proofs.refuse.Reads as refuse-reads
 
 -- src/lib.rt:145:9
 clear-requires : tie.Need-clear-requires

@@ -2,11 +2,6 @@
 use borrow.Author.Needs.{needs}
 use Rattle.pen.proofs.Writer.again.Statement.{statement}
 use Rattle.pen.proofs.Writer.again.Tie as tie
-use Rattle.pen.proofs.Writer.again.Reads as reads
-use Rattle.pen.proofs.Writer.again.Lts as lts
-use Rattle.pen.proofs.Writer.again_at_once.Reads as again-at-once-reads
-use Rattle.pen.proofs.Writer.again_by_bytes.Reads as again-by-bytes-reads
-use Rattle.pen.proofs.has_room.Reads as has-room-reads
 
 -- src/lib.rt:236:12
 has-room-requires : tie.Need-has-room-requires

@@ -3,11 +3,6 @@ use Rattle.pen.proofs.Texts.{again-written}
 use borrow.Author.Needs.{needs}
 use Rattle.pen.proofs.Writer.again_at_once.Statement.{statement}
 use Rattle.pen.proofs.Writer.again_at_once.Tie as tie
-use Rattle.pen.proofs.Writer.again_at_once.Reads as reads
-use Rattle.pen.proofs.Writer.again_at_once.Lts as lts
-use Rattle.pen.proofs.column_again.Reads as column-again-reads
-use Rattle.pen.proofs.fill.Reads as fill-reads
-use Rattle.pen.proofs.wide.Reads as wide-reads
 
 -- src/lib.rt:209:19
 add-end : tie.Need-add-end

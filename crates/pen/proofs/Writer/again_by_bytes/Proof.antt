@@ -7,9 +7,6 @@ use borrow.Author.Needs.{needs}
 use Rattle.pen.specs.Pen.{Pen, pen, puts, put1}
 use Rattle.pen.proofs.Writer.again_by_bytes.Statement.{statement}
 use Rattle.pen.proofs.Writer.again_by_bytes.Tie as tie
-use Rattle.pen.proofs.Writer.again_by_bytes.Reads as reads
-use Rattle.pen.proofs.Writer.again_by_bytes.Lts as lts
-use Rattle.pen.proofs.Writer.byte.Reads as byte-reads
 
 turn : (b k : ℕ) (P P′ Z : Pen) → 0 < k → P′ ≡ put1 P b → puts (replicate k b) P ≡ Z → puts (replicate (k - 1) b) P′ ≡ Z
 unfolding puts

@@ -4,11 +4,6 @@ use lib.Seq.{set-out}
 use Rattle.pen.specs.Pen.{put1}
 use Rattle.pen.proofs.Writer.byte.Statement.{statement}
 use Rattle.pen.proofs.Writer.byte.Tie as tie
-use Rattle.pen.proofs.Writer.byte.Reads as reads
-use Rattle.pen.proofs.Writer.byte.Lts as lts
-use Rattle.pen.proofs.Writer.column_after.Reads as column-after-reads
-use Rattle.pen.proofs.up_to.Reads as up-to-reads
-use Rattle.pen.proofs.wide.Reads as wide-reads
 
 -- src/lib.rt:60:20
 add-most : tie.Need-add-most

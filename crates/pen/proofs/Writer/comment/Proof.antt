@@ -7,11 +7,6 @@ use Rattle.pen.specs.Pen.{Pen, pen, and-then, noted, withInline}
 use borrow.Author.Needs.{needs}
 use Rattle.pen.proofs.Writer.comment.Statement.{statement}
 use Rattle.pen.proofs.Writer.comment.Tie as tie
-use Rattle.pen.proofs.Writer.comment.Reads as reads
-use Rattle.pen.proofs.Writer.comment.Lts as lts
-use Rattle.pen.proofs.Writer.hashed.Reads as hashed-reads
-use Rattle.pen.proofs.Writer.spaces.Reads as spaces-reads
-use Rattle.pen.proofs.at_least_one.Reads as at-least-one-reads
 
 -- src/lib.rt:132:20
 add-mark : tie.Need-add-mark

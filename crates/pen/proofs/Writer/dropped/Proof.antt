@@ -6,8 +6,6 @@ use Rattle.pen.specs.Pen.{unput}
 use borrow.Author.Needs.{needs}
 use Rattle.pen.proofs.Writer.dropped.Statement.{statement}
 use Rattle.pen.proofs.Writer.dropped.Tie as tie
-use Rattle.pen.proofs.Writer.dropped.Reads as reads
-use Rattle.pen.proofs.Writer.dropped.Lts as lts
 
 -- src/lib.rt:160:19
 sub-len : tie.Need-sub-len

@@ -3,9 +3,6 @@ use Rattle.pen.specs.Pen.{lineEnded}
 use borrow.Author.Needs.{needs}
 use Rattle.pen.proofs.Writer.end_line.Statement.{statement}
 use Rattle.pen.proofs.Writer.end_line.Tie as tie
-use Rattle.pen.proofs.Writer.end_line.Reads as reads
-use Rattle.pen.proofs.Writer.end_line.Lts as lts
-use Rattle.pen.proofs.Writer.byte.Reads as byte-reads
 
 -- src/lib.rt:109:13
 returns : tie.Need-returns

@@ -3,9 +3,6 @@ use Rattle.pen.specs.Pen.{ended}
 use borrow.Author.Needs.{needs}
 use Rattle.pen.proofs.Writer.finish.Statement.{statement}
 use Rattle.pen.proofs.Writer.finish.Tie as tie
-use Rattle.pen.proofs.Writer.finish.Reads as reads
-use Rattle.pen.proofs.Writer.finish.Lts as lts
-use Rattle.pen.proofs.Writer.dropped.Reads as dropped-reads
 
 -- src/lib.rt:175:13
 returns : tie.Need-returns

@@ -4,10 +4,6 @@ use Rattle.pen.proofs.Laws.{hashed-nothing, hashed-text}
 use borrow.Author.Needs.{needs}
 use Rattle.pen.proofs.Writer.hashed.Statement.{statement}
 use Rattle.pen.proofs.Writer.hashed.Tie as tie
-use Rattle.pen.proofs.Writer.hashed.Reads as reads
-use Rattle.pen.proofs.Writer.hashed.Lts as lts
-use Rattle.pen.proofs.Writer.byte.Reads as byte-reads
-use Rattle.pen.proofs.Writer.text.Reads as text-reads
 
 -- src/lib.rt:119:13
 byte-requires : tie.Need-byte-requires

@@ -6,10 +6,6 @@ use Rattle.pen.proofs.Laws.{puts-count}
 use borrow.Author.Needs.{needs}
 use Rattle.pen.proofs.Writer.replay.Statement.{statement}
 use Rattle.pen.proofs.Writer.replay.Tie as tie
-use Rattle.pen.proofs.Writer.replay.Reads as reads
-use Rattle.pen.proofs.Writer.replay.Lts as lts
-use Rattle.pen.proofs.Writer.text.Reads as text-reads
-use Rattle.pen.proofs.ends_closed.Reads as ends-closed-reads
 
 -- src/lib.rt:147:13
 text-requires : tie.Need-text-requires

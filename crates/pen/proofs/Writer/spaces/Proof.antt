@@ -2,9 +2,6 @@ use Rattle.definition.specs.Base.{spaces}
 use borrow.Author.Needs.{needs}
 use Rattle.pen.proofs.Writer.spaces.Statement.{statement}
 use Rattle.pen.proofs.Writer.spaces.Tie as tie
-use Rattle.pen.proofs.Writer.spaces.Reads as reads
-use Rattle.pen.proofs.Writer.spaces.Lts as lts
-use Rattle.pen.proofs.Writer.again.Reads as again-reads
 
 -- src/lib.rt:109:9
 again-requires : tie.Need-again-requires

@@ -2,11 +2,6 @@
 use borrow.Author.Needs.{needs}
 use Rattle.pen.proofs.Writer.text.Statement.{statement}
 use Rattle.pen.proofs.Writer.text.Tie as tie
-use Rattle.pen.proofs.Writer.text.Reads as reads
-use Rattle.pen.proofs.Writer.text.Lts as lts
-use Rattle.pen.proofs.Writer.text_at_once.Reads as text-at-once-reads
-use Rattle.pen.proofs.Writer.text_by_bytes.Reads as text-by-bytes-reads
-use Rattle.pen.proofs.has_room.Reads as has-room-reads
 
 -- src/lib.rt:197:12
 has-room-requires : tie.Need-has-room-requires

@@ -3,11 +3,6 @@ use Rattle.pen.proofs.Texts.{text-written}
 use borrow.Author.Needs.{needs}
 use Rattle.pen.proofs.Writer.text_at_once.Statement.{statement}
 use Rattle.pen.proofs.Writer.text_at_once.Tie as tie
-use Rattle.pen.proofs.Writer.text_at_once.Reads as reads
-use Rattle.pen.proofs.Writer.text_at_once.Lts as lts
-use Rattle.pen.proofs.column_over.Reads as column-over-reads
-use Rattle.pen.proofs.copy_to.Reads as copy-to-reads
-use Rattle.pen.proofs.wide.Reads as wide-reads
 
 -- src/lib.rt:169:19
 add-end : tie.Need-add-end

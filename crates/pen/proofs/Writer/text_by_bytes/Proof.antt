@@ -10,9 +10,6 @@ use borrow.Author.Needs.{needs}
 use Rattle.pen.specs.Pen.{Pen, pen, puts, put1}
 use Rattle.pen.proofs.Writer.text_by_bytes.Statement.{statement}
 use Rattle.pen.proofs.Writer.text_by_bytes.Tie as tie
-use Rattle.pen.proofs.Writer.text_by_bytes.Reads as reads
-use Rattle.pen.proofs.Writer.text_by_bytes.Lts as lts
-use Rattle.pen.proofs.Writer.byte.Reads as byte-reads
 
 turn : (s : List ℕ) (i : ℕ) (P P′ Z : Pen) → i < length s → P′ ≡ put1 P (getD s i 0) → puts (drop i s) P ≡ Z → puts (drop (i + 1) s) P′ ≡ Z
 unfolding puts

@@ -5,34 +5,37 @@ use borrow.Fn.Kinds.{In}
 use borrow.Fn.PlainCycle.{Measures, is, falls, and}
 use Rattle.flow.proofs.content.Reads as content
 use Rattle.flow.proofs.content.Kinds as content-kinds
-use Rattle.flow.proofs.+content+flow_entries+flow_entry+group+item+key+lined_entries+lined_entry+lined_group+plain_group.Lts-content as content-lts
+use Rattle.flow.proofs.+content+entry_key+flow_entries+flow_entry+group+item+key+lined_entries+lined_entry+lined_group+plain_group.Lts-content as content-lts
+use Rattle.flow.proofs.entry_key.Reads as entry-key
+use Rattle.flow.proofs.entry_key.Kinds as entry-key-kinds
+use Rattle.flow.proofs.+content+entry_key+flow_entries+flow_entry+group+item+key+lined_entries+lined_entry+lined_group+plain_group.Lts-entry_key as entry-key-lts
 use Rattle.flow.proofs.flow_entries.Reads as flow-entries
 use Rattle.flow.proofs.flow_entries.Kinds as flow-entries-kinds
-use Rattle.flow.proofs.+content+flow_entries+flow_entry+group+item+key+lined_entries+lined_entry+lined_group+plain_group.Lts-flow_entries as flow-entries-lts
+use Rattle.flow.proofs.+content+entry_key+flow_entries+flow_entry+group+item+key+lined_entries+lined_entry+lined_group+plain_group.Lts-flow_entries as flow-entries-lts
 use Rattle.flow.proofs.flow_entry.Reads as flow-entry
 use Rattle.flow.proofs.flow_entry.Kinds as flow-entry-kinds
-use Rattle.flow.proofs.+content+flow_entries+flow_entry+group+item+key+lined_entries+lined_entry+lined_group+plain_group.Lts-flow_entry as flow-entry-lts
+use Rattle.flow.proofs.+content+entry_key+flow_entries+flow_entry+group+item+key+lined_entries+lined_entry+lined_group+plain_group.Lts-flow_entry as flow-entry-lts
 use Rattle.flow.proofs.group.Reads as group
 use Rattle.flow.proofs.group.Kinds as group-kinds
-use Rattle.flow.proofs.+content+flow_entries+flow_entry+group+item+key+lined_entries+lined_entry+lined_group+plain_group.Lts-group as group-lts
+use Rattle.flow.proofs.+content+entry_key+flow_entries+flow_entry+group+item+key+lined_entries+lined_entry+lined_group+plain_group.Lts-group as group-lts
 use Rattle.flow.proofs.item.Reads as item
 use Rattle.flow.proofs.item.Kinds as item-kinds
-use Rattle.flow.proofs.+content+flow_entries+flow_entry+group+item+key+lined_entries+lined_entry+lined_group+plain_group.Lts-item as item-lts
+use Rattle.flow.proofs.+content+entry_key+flow_entries+flow_entry+group+item+key+lined_entries+lined_entry+lined_group+plain_group.Lts-item as item-lts
 use Rattle.flow.proofs.key.Reads as key
 use Rattle.flow.proofs.key.Kinds as key-kinds
-use Rattle.flow.proofs.+content+flow_entries+flow_entry+group+item+key+lined_entries+lined_entry+lined_group+plain_group.Lts-key as key-lts
+use Rattle.flow.proofs.+content+entry_key+flow_entries+flow_entry+group+item+key+lined_entries+lined_entry+lined_group+plain_group.Lts-key as key-lts
 use Rattle.flow.proofs.lined_entries.Reads as lined-entries
 use Rattle.flow.proofs.lined_entries.Kinds as lined-entries-kinds
-use Rattle.flow.proofs.+content+flow_entries+flow_entry+group+item+key+lined_entries+lined_entry+lined_group+plain_group.Lts-lined_entries as lined-entries-lts
+use Rattle.flow.proofs.+content+entry_key+flow_entries+flow_entry+group+item+key+lined_entries+lined_entry+lined_group+plain_group.Lts-lined_entries as lined-entries-lts
 use Rattle.flow.proofs.lined_entry.Reads as lined-entry
 use Rattle.flow.proofs.lined_entry.Kinds as lined-entry-kinds
-use Rattle.flow.proofs.+content+flow_entries+flow_entry+group+item+key+lined_entries+lined_entry+lined_group+plain_group.Lts-lined_entry as lined-entry-lts
+use Rattle.flow.proofs.+content+entry_key+flow_entries+flow_entry+group+item+key+lined_entries+lined_entry+lined_group+plain_group.Lts-lined_entry as lined-entry-lts
 use Rattle.flow.proofs.lined_group.Reads as lined-group
 use Rattle.flow.proofs.lined_group.Kinds as lined-group-kinds
-use Rattle.flow.proofs.+content+flow_entries+flow_entry+group+item+key+lined_entries+lined_entry+lined_group+plain_group.Lts-lined_group as lined-group-lts
+use Rattle.flow.proofs.+content+entry_key+flow_entries+flow_entry+group+item+key+lined_entries+lined_entry+lined_group+plain_group.Lts-lined_group as lined-group-lts
 use Rattle.flow.proofs.plain_group.Reads as plain-group
 use Rattle.flow.proofs.plain_group.Kinds as plain-group-kinds
-use Rattle.flow.proofs.+content+flow_entries+flow_entry+group+item+key+lined_entries+lined_entry+lined_group+plain_group.Lts-plain_group as plain-group-lts
+use Rattle.flow.proofs.+content+entry_key+flow_entries+flow_entry+group+item+key+lined_entries+lined_entry+lined_group+plain_group.Lts-plain_group as plain-group-lts
 use Rattle.atoms.proofs.put_alias.Reads as put-alias-reads
 use Rattle.atoms.proofs.put_null.Reads as put-null-reads
 use Rattle.atoms.proofs.put_words.Reads as put-words-reads
@@ -57,14 +60,17 @@ use Rattle.spot.proofs.spot_at.Reads as spot-at-reads
 abbrev pub μ-content : Measures 3 content-kinds.ps ℕ
 μ-content κs a = 16 * (length (a .1 .0 .now) - a .1 .1 .1 .1 .1 .0 .place) + 4
 
+abbrev pub μ-entry-key : Measures 3 entry-key-kinds.ps ℕ
+μ-entry-key κs a = 16 * (length (a .1 .0 .now) - a .1 .1 .1 .1 .1 .1 .0 .at) + 9
+
 abbrev pub μ-flow-entries : Measures 3 flow-entries-kinds.ps ℕ
-μ-flow-entries κs a = 16 * (length (a .1 .0 .now) - a .1 .1 .1 .1 .1 .1 .1 .0 .at) + 11
+μ-flow-entries κs a = 16 * (length (a .1 .0 .now) - a .1 .1 .1 .1 .1 .1 .1 .0 .at) + 12
 
 abbrev pub μ-flow-entry : Measures 3 flow-entry-kinds.ps ℕ
-μ-flow-entry κs a = 16 * (length (a .1 .0 .now) - a .1 .1 .1 .1 .1 .1 .0 .at) + 9
+μ-flow-entry κs a = 16 * (length (a .1 .0 .now) - a .1 .1 .1 .1 .1 .1 .0 .at) + 10
 
 abbrev pub μ-group : Measures 3 group-kinds.ps ℕ
-μ-group κs a = 16 * (length (a .1 .0 .now) - a .1 .1 .1 .1 .1 .1 .1 .1 .0) + 3
+μ-group κs a = 16 * (length (a .1 .0 .now) - a .1 .1 .1 .1 .1 .1 .1 .0 .at) + 14
 
 abbrev pub μ-item : Measures 3 item-kinds.ps ℕ
 μ-item κs a = 16 * (length (a .1 .0 .now) - a .1 .1 .1 .1 .1 .0 .at) + 8
@@ -73,22 +79,29 @@ abbrev pub μ-key : Measures 3 key-kinds.ps ℕ
 μ-key κs a = 16 * (length (a .1 .0 .now) - a .1 .1 .1 .1 .1 .0 .place) + 8
 
 abbrev pub μ-lined-entries : Measures 3 lined-entries-kinds.ps ℕ
-μ-lined-entries κs a = 16 * (length (a .1 .0 .now) - a .1 .1 .1 .1 .1 .1 .1 .0 .at) + 11
+μ-lined-entries κs a = 16 * (length (a .1 .0 .now) - a .1 .1 .1 .1 .1 .1 .1 .0 .at) + 12
 
 abbrev pub μ-lined-entry : Measures 3 lined-entry-kinds.ps ℕ
-μ-lined-entry κs a = 16 * (length (a .1 .0 .now) - a .1 .1 .1 .1 .1 .1 .0 .at) + 10
+μ-lined-entry κs a = 16 * (length (a .1 .0 .now) - a .1 .1 .1 .1 .1 .1 .0 .at) + 11
 
 abbrev pub μ-lined-group : Measures 3 lined-group-kinds.ps ℕ
-μ-lined-group κs a = 16 * (length (a .1 .0 .now) - a .1 .1 .1 .1 .1 .1 .1 .0 .at) + 12
+μ-lined-group κs a = 16 * (length (a .1 .0 .now) - a .1 .1 .1 .1 .1 .1 .1 .0 .at) + 13
 
 abbrev pub μ-plain-group : Measures 3 plain-group-kinds.ps ℕ
-μ-plain-group κs a = 16 * (length (a .1 .0 .now) - a .1 .1 .1 .1 .1 .1 .1 .0 .at) + 12
+μ-plain-group κs a = 16 * (length (a .1 .0 .now) - a .1 .1 .1 .1 .1 .1 .1 .0 .at) + 13
 
 abbrev pub content-at : ℕ → In 3 content-kinds.ps
 content-at t = and 3 content-kinds.ps (is 3 content-kinds.ps μ-content t) content.Pre
 
 abbrev pub content-below : ℕ → In 3 content-kinds.ps
 content-below t = and 3 content-kinds.ps (falls 3 content-kinds.ps _<_ μ-content t) content.Pre
+
+abbrev pub entry-key-at : ℕ → In 3 entry-key-kinds.ps
+entry-key-at t = and 3 entry-key-kinds.ps (is 3 entry-key-kinds.ps μ-entry-key t) entry-key.Pre
+
+abbrev pub entry-key-below : ℕ → In 3 entry-key-kinds.ps
+entry-key-below t =
+    and 3 entry-key-kinds.ps (falls 3 entry-key-kinds.ps _<_ μ-entry-key t) entry-key.Pre
 
 abbrev pub flow-entries-at : ℕ → In 3 flow-entries-kinds.ps
 flow-entries-at t =
@@ -174,8 +187,22 @@ content-claims t = (
   put-words-reads.Learnt,
   put-alias-reads.Asked,
   put-alias-reads.Learnt,
+  with-flow-reads.Asked,
+  with-flow-reads.Learnt,
   group-below t,
   group.Post,
+  back-reads.Asked,
+  back-reads.Learnt,
+)
+
+abbrev pub entry-key-claims : ℕ → entry-key-lts.Claims
+entry-key-claims t = (
+  spot-at-reads.Asked,
+  spot-at-reads.Learnt,
+  key-below t,
+  key.Post,
+  byte-reads.Asked,
+  byte-reads.Learnt,
 )
 
 abbrev pub flow-entries-claims : ℕ → flow-entries-lts.Claims
@@ -188,28 +215,20 @@ flow-entries-claims t = (
 
 abbrev pub flow-entry-claims : ℕ → flow-entry-lts.Claims
 flow-entry-claims t = (
-  spot-at-reads.Asked,
-  spot-at-reads.Learnt,
-  key-below t,
-  key.Post,
-  byte-reads.Asked,
-  byte-reads.Learnt,
+  entry-key-below t,
+  entry-key.Post,
   item-below t,
   item.Post,
 )
 
 abbrev pub group-claims : ℕ → group-lts.Claims
 group-claims t = (
-  with-flow-reads.Asked,
-  with-flow-reads.Learnt,
   step-of-reads.Asked,
   step-of-reads.Learnt,
   commented-reads.Asked,
   commented-reads.Learnt,
   lined-group-below t,
   lined-group.Post,
-  back-reads.Asked,
-  back-reads.Learnt,
   plain-group-below t,
   plain-group.Post,
 )
