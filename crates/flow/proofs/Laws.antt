@@ -96,20 +96,32 @@ module _ (s : Settings) (deck pool : Bytes) where
   unfolding contentOf kindOf endOf keptOf broughtOf fresh freshIn commented
   content-words x t i g b e d = leaf-emits x _ g (rw b) (rw b (rw e at d))
 
+  -- a flow collection, of items or of pairs
+  content-group :
+      (x : Spot) (pairs : Bool) (n i : ℕ) {P Q : Pen} {r : Cursor} → Good deck x
+      → ink s (contentIn P i x) P ≡ ink s (groupOf deck pool s true (K P) i pairs n (x .next)) P → endIn deck pool x ≡ runEnd deck pool pairs n (x .next)
+      → Emits s (groupOf deck pool s true (K P) i pairs n (x .next)) P Q (x .next .at) (runEnd deck pool pairs n (x .next)) r (length deck)
+      → Emits s (contentIn P i x) P Q (x .place) (endIn deck pool x) r (length deck)
+  content-group x pairs n i h same end e =
+      let a = h .ahead in
+      let o = e .onward in
+      record {
+        drawn = e .drawn ∙ sym same;
+        next = e .next ∙ sym end;
+        onward = omega (arith, a, o);
+        within = e .within;
+      }
+
   pub content-items :
       (x : Spot) (g : Group) (i : ℕ) {P Q : Pen} {r : Cursor} → Good deck x → x .body ≡ body.Sequence g
       → Emits s (groupOf deck pool s true (K P) i false (g .count) (x .next)) P Q (x .next .at) (runEnd deck pool false (g .count) (x .next)) r (length deck)
       → Emits s (contentIn P i x) P Q (x .place) (endIn deck pool x) r (length deck)
   unfolding kindOf endOf
   content-items x g i {P} h b e =
-      let a = h .ahead in
-      let o = e .onward in
-      record {
-        drawn = rw b (e .drawn ∙ sym (group-items deck pool s (K P) (F P) i (x .place) (keptIn deck pool x) (broughtIn deck pool x) (g .form) (g .count) (x .next) P));
-        next = rw b (e .next ∙ sym (items-end deck pool (g .count) (x .next)));
-        onward = omega (arith, a, o);
-        within = e .within;
-      }
+      content-group x false (g .count) i h
+      (rw b (group-items deck pool s (K P) (F P) i (x .place) (keptIn deck pool x) (broughtIn deck pool x) (g .form) (g .count) (x .next) P))
+      (rw b (items-end deck pool (g .count) (x .next)))
+      e
 
   pub content-pairs :
       (x : Spot) (g : Group) (i : ℕ) {P Q : Pen} {r : Cursor} → Good deck x → x .body ≡ body.Mapping g
@@ -117,14 +129,10 @@ module _ (s : Settings) (deck pool : Bytes) where
       → Emits s (contentIn P i x) P Q (x .place) (endIn deck pool x) r (length deck)
   unfolding kindOf endOf
   content-pairs x g i {P} h b e =
-      let a = h .ahead in
-      let o = e .onward in
-      record {
-        drawn = rw b (e .drawn ∙ sym (group-pairs deck pool s (K P) (F P) i (x .place) (keptIn deck pool x) (broughtIn deck pool x) (g .form) (g .count) (x .next) P));
-        next = rw b (e .next ∙ sym (pairs-end deck pool (g .count) (x .next)));
-        onward = omega (arith, a, o);
-        within = e .within;
-      }
+      content-group x true (g .count) i h
+      (rw b (group-pairs deck pool s (K P) (F P) i (x .place) (keptIn deck pool x) (broughtIn deck pool x) (g .form) (g .count) (x .next) P))
+      (rw b (pairs-end deck pool (g .count) (x .next)))
+      e
 
   pub items-deeper : (x : Spot) (g : Group) → Good deck x → x .body ≡ body.Sequence g → x .place < x .next .at
   unfolding isGroup

@@ -45,7 +45,8 @@ fn back(e: Emitted, flow: usize) -> Emitted
     Emitted { w, next }
 }
 
-// `emit_inline_content` of a node.
+// `emit_inline_content` of a node. A flow collection is entered and left here, and not in `group`: only there the writer is handed on, so that for
+// a scalar it need not be kept in memory.
 pub fn content(
     w: Writer,
     deck: &[u8],
