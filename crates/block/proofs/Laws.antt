@@ -23,14 +23,16 @@ use Rattle.parts.specs.Lines.{before, breaks, colonOpen, dashOpen}
 use Rattle.spot.specs.declared.Body.{Body}
 use Rattle.spot.specs.declared.Body.the-variants as body
 use Rattle.spot.specs.declared.Spot.{Spot}
-use Rattle.spot.specs.Spot.{kindOf, endOf, keptIn, broughtIn, kindIn, endIn, nodeIn, spotAt, tree-value, tree-end}
-use Rattle.spot.specs.Good.{Good, isGroup, spot-good}
+use Rattle.spot.specs.Spot.{kindOf, endOf, keptIn, broughtIn, kindIn, endIn, nodeIn, spotAt, tree-value}
+use Rattle.spot.specs.Good.{Good, isGroup}
 use Rattle.atoms.specs.Atoms.{on}
 use Rattle.choices.specs.Choices.{blockIn, block-is, explicitIn, explicit-is, includedIn, included-is, valueColumnIn, value-column-is, itemColumnIn, item-column-is, onDashLineIn, on-dash-line-is}
+use Rattle.joints.specs.declared.Manner.the-variants.{Key}
+use Rattle.joints.specs.Line.{lineOf, line-key}
 use Rattle.joints.specs.Entries.{nodeAt, nextAt, lastOf, entryEnd, runEnd, keyOf, items-end, pairs-end}
-use Rattle.flow.specs.Ready.{Emits, kept-length}
+use Rattle.flow.specs.Ready.{Emits, kept-length, at-cursor}
 use Rattle.layout.specs.Calm.{Calm, calm-after, calm-further}
-use Rattle.layout.specs.Emitting.{drawn-first, drawn-last, emits-yes, emits-no, emits-same, earlier}
+use Rattle.layout.specs.Emitting.{drawn-first, drawn-last, emits-yes, emits-no}
 use Rattle.layout.specs.Stretch.{includeAfter, keyLine}
 use Rattle.block.specs.Rows.{openingOf, underOf, dashIn, Footed, Coloned, explicitKey, keyPart, itemRow, pairRow, rowOf, rows, rows-items, rows-pairs}
 
@@ -51,15 +53,7 @@ deeper deck x b g e f = g .deeper (group-of (x .body) (sym e ∙ f))
 module _ (s : Settings) (deck pool : Bytes) where
   -- from the node that was read to the tree at its cursor
   at-node : (c r : Cursor) (x : Spot) (f : Node → Script) {P Q : Pen} {n : ℕ} {z : Cursor} → c .at ≤ length deck → x ≡ spotAt deck c → Emits s (f (nodeIn deck pool x)) P Q n z r (length deck) → Emits s (f (nodeAt deck pool c)) P Q n z r (length deck)
-  at-node c r x f k e m = emits-same (f (nodeIn deck pool x)) (f (nodeAt deck pool c)) (ap (λ (y : Spot). f (nodeIn deck pool y)) e ∙ ap f (sym (tree-value deck pool c k))) m
-
-  pub at-cursor :
-      (c r : Cursor) (x : Spot) (f : Node → Script) {P Q : Pen} → c .at ≤ length deck → length deck ≤ 65536 → x ≡ spotAt deck c
-      → Emits s (f (nodeIn deck pool x)) P Q (x .place) (endIn deck pool x) r (length deck) → Emits s (f (nodeAt deck pool c)) P Q (c .at) (nextAt deck pool c) r (length deck)
-  at-cursor c r x f k b e m =
-      let g = spot-good deck c x k b e in
-      let z : endIn deck pool x ≡ nextAt deck pool c = ap (λ (y : Spot). endIn deck pool y) e ∙ sym (tree-end deck pool c k) in
-      at-node c r x f k e (earlier (c .at) (g .1) (rw z at m))
+  at-node c r x f k e m = rw (tree-value deck pool c k, ← e) m
 
   -- ---- the members of a collection
 
@@ -166,7 +160,7 @@ module _ (s : Settings) (deck pool : Bytes) where
   unfolding ink rowOf pairRow entryEnd lastOf
   pair-row i pairs lead first c d r x h l e t a m v =
       let b = before-there i pairs lead c x h e a in
-      let k = at-cursor c d x (keyPart s i first) h l e m in
+      let k = at-cursor s deck pool c d x (keyPart s i first) h l e m in
       let p = k .onward in
       let q = v .onward in
       let v′ = rw (k .next) at v in
@@ -197,12 +191,12 @@ module _ (s : Settings) (deck pool : Bytes) where
 
   pub key-inline :
       (i : ℕ) (first : Bool) (r : Cursor) (x : Spot) (b : Bool) (P : Pen) {Q : Pen} → b ≡ explicitIn first (x .lead) (x .body) → b ≡ false → P .w .flow ≡ 0
-      → Emits s (keyOf deck pool s (on (P .w .flow)) (on (P .w .key)) i (nodeIn deck pool x)) P Q (x .place) (endIn deck pool x) r (length deck)
+      → Emits s (lineOf s (on (P .w .flow)) (on (P .w .key)) Key i (nodeIn deck pool x)) P Q (x .place) (endIn deck pool x) r (length deck)
       → Emits s (keyPart s i first (nodeIn deck pool x)) P Q (x .place) (endIn deck pool x) r (length deck)
   unfolding keyPart keyOf
   key-inline i first r x b P f t h m =
       let o : on (P .w .flow) ≡ false = unfold on in ap on h in
-      emits-no _ _ _ (explicit-is deck pool first x ∙ sym f ∙ t) (rw o at m)
+      emits-no _ _ _ (explicit-is deck pool first x ∙ sym f ∙ t) (rw (line-key deck pool s (on (P .w .flow)) (on (P .w .key)) i (nodeIn deck pool x), o) at m)
 
   pub key-below-block :
       (i j n : ℕ) (r : Cursor) (x : Spot) (b : Bool) {P₀ P₁ P₂ P₃ : Pen} → n ≡ stepOf s → j ≡ i + n → b ≡ blockIn (x .body) → b ≡ true
@@ -289,7 +283,7 @@ module _ (s : Settings) (deck pool : Bytes) where
   unfolding value nodeIn
   value-block i j c r x b d k l e f t g u h m =
       let v : j ≡ valueColumn s (keptIn deck pool x) (broughtIn deck pool x) i (kindIn deck pool x) = h ∙ sym (value-column-is s deck pool (x .lead) i (x .body) (x .next)) in
-      at-cursor c r x (value s i) k l e (emits-no _ _ _ (included-test x b f ∙ t) (emits-yes _ _ _ (block-test x d g ∙ u) (rw v at (colon-under x j m))))
+      at-cursor s deck pool c r x (value s i) k l e (emits-no _ _ _ (included-test x b f ∙ t) (emits-yes _ _ _ (block-test x d g ∙ u) (rw v at (colon-under x j m))))
 
   pub value-plain :
       (i j n : ℕ) (c r : Cursor) (x : Spot) (b d : Bool) {P Q : Pen} → c .at ≤ length deck → length deck ≤ 65536 → x ≡ spotAt deck c
@@ -297,7 +291,7 @@ module _ (s : Settings) (deck pool : Bytes) where
       → Emits s (valueOf (bare s (keptIn deck pool x) (kindIn deck pool x)) (x .place) (keptIn deck pool x) (broughtIn deck pool x) j (content s false false j (nodeIn deck pool x))) P Q (x .place) (endIn deck pool x) r (length deck)
       → Emits s (value s i (nodeAt deck pool c)) P Q (c .at) (nextAt deck pool c) r (length deck)
   unfolding value nodeIn
-  value-plain i j n c r x b d k l e f t g u h p m = at-cursor c r x (value s i) k l e (emits-no _ _ _ (included-test x b f ∙ t) (emits-no _ _ _ (block-test x d g ∙ u) (rw (p, h) at m)))
+  value-plain i j n c r x b d k l e f t g u h p m = at-cursor s deck pool c r x (value s i) k l e (emits-no _ _ _ (included-test x b f ∙ t) (emits-no _ _ _ (block-test x d g ∙ u) (rw (p, h) at m)))
 
   pub dash-included :
       (i : ℕ) (c r : Cursor) (x : Spot) (b : Bool) {P₀ P₁ P₂ : Pen} → c .at ≤ length deck → x ≡ spotAt deck c → P₁ ≡ put1 P₀ '-' → b ≡ includedIn (x .lead .origin) → b ≡ true
@@ -315,7 +309,7 @@ module _ (s : Settings) (deck pool : Bytes) where
   dash-block i c r x b d P₁ k l e p f t g u m =
       let w : Emits s (dashWalk i x (onDashLine s (keptIn deck pool x) (broughtIn deck pool x) (kindIn deck pool x))) P₁ _ (x .place) (endIn deck pool x) r (length deck) =
       record { drawn = m .drawn ∙ dash-joined i x P₁; next = m .next; onward = m .onward; within = m .within } in
-      at-cursor c r x (dash s i) k l e (drawn-first (sign '-') _ (of-byte mark '-' p) (emits-no _ _ _ (included-test x b f ∙ t) (emits-yes _ _ _ (block-test x d g ∙ u) w)))
+      at-cursor s deck pool c r x (dash s i) k l e (drawn-first (sign '-') _ (of-byte mark '-' p) (emits-no _ _ _ (included-test x b f ∙ t) (emits-yes _ _ _ (block-test x d g ∙ u) w)))
 
   pub dash-plain :
       (i : ℕ) (c r : Cursor) (x : Spot) (b d : Bool) {P₀ P₁ P₂ : Pen} → c .at ≤ length deck → length deck ≤ 65536 → x ≡ spotAt deck c → P₁ ≡ put1 P₀ '-'
@@ -324,4 +318,4 @@ module _ (s : Settings) (deck pool : Bytes) where
       → Emits s (dash s i (nodeAt deck pool c)) P₀ P₂ (c .at) (nextAt deck pool c) r (length deck)
   unfolding dash nodeIn sign
   dash-plain i c r x b d k l e p f t g u m =
-      at-cursor c r x (dash s i) k l e (drawn-first (sign '-') _ (of-byte mark '-' p) (emits-no _ _ _ (included-test x b f ∙ t) (emits-no _ _ _ (block-test x d g ∙ u) m)))
+      at-cursor s deck pool c r x (dash s i) k l e (drawn-first (sign '-') _ (of-byte mark '-' p) (emits-no _ _ _ (included-test x b f ∙ t) (emits-no _ _ _ (block-test x d g ∙ u) m)))

@@ -2,6 +2,7 @@
 use definition::Cursor;
 use definition::Settings;
 use flow::Emitted;
+use joints::Manner;
 use parts::Entries;
 use pen::Writer;
 use spot::Body;
@@ -165,7 +166,7 @@ fn put_key(
         let e = put_question(w1, deck, pool, out, settings, x, i);
         return with_colon(e, out, i);
     }
-    flow::key(w, deck, pool, out, settings, x, i)
+    flow::line(w, deck, pool, out, settings, x, i, Manner::Key)
 }
 
 // The key of `emit_explicit_key_pair`, after the `?` at column i.

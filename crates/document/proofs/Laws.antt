@@ -12,7 +12,7 @@ use Rattle.definition.specs.Settings.{stepOf}
 use Rattle.definition.specs.Deck.{layoutOf}
 use Rattle.definition.specs.Tree.{Node, kept}
 use Rattle.definition.specs.Pen.{Script, _>>_, nothing}
-use Rattle.definition.specs.Walk.{heads, foots, props, propsLine, includeLine, inlined, content, contentOf, members}
+use Rattle.definition.specs.Walk.{heads, foots, propsLine, includeLine, content, members}
 use Rattle.definition.specs.Document.{directives, body, bom, document, oneDocument, separation, laterDocuments, allDocuments}
 use Rattle.definition.specs.declared.Cursor.{Cursor}
 use Rattle.definition.specs.declared.Lines.{Lines}
@@ -22,9 +22,9 @@ use Rattle.node.specs.declared.Remark.{Remark}
 use Rattle.node.specs.Total.{keptOf, originOf, remarkOf, treesFrom, treesOf}
 use Rattle.node.specs.Ends.{Ends}
 use Rattle.pen.specs.Pen.{Pen, puts, ink}
-use Rattle.scripts.specs.Keep.{flow-of, key-of, length-of}
+use Rattle.scripts.specs.Keep.{length-of}
 use Rattle.parts.specs.Draws.{Draws}
-use Rattle.parts.specs.Lines.{closes, directed}
+use Rattle.parts.specs.Lines.{directed}
 use Rattle.spot.specs.declared.Body.{Body}
 use Rattle.spot.specs.declared.Body.the-variants as body
 use Rattle.spot.specs.declared.Spot.{Spot}
@@ -32,15 +32,14 @@ use Rattle.spot.specs.Spot.{endOf, keptIn, broughtIn, kindIn, endIn, nodeIn, sp
 use Rattle.spot.specs.Good.{Good, spot-good}
 use Rattle.atoms.specs.Atoms.{on}
 use Rattle.choices.specs.Choices.{blockIn, noneIn, includedIn, rootColumnIn, bareRootIn, block-is, included-is, root-column-is, bare-root-is}
+use Rattle.joints.specs.declared.Manner.the-variants.{Value}
+use Rattle.joints.specs.Line.{lineOf}
 use Rattle.joints.specs.Entries.{nodeAt, nextAt}
 use Rattle.flow.specs.Ready.{Emits}
 use Rattle.layout.specs.Calm.{Calm}
+use Rattle.layout.specs.Emitting.{calm-line, line-value}
 use Rattle.document.specs.Root.{calm-emits}
 use Rattle.document.specs.Pieces.{bomIn, startIn, stopIn, opened, separationIn, firstOf, laterOf, blockRoot, lineRoot, rootOf, bom-is, separation-is}
-
-on-zero : (n : ℕ) → n ≡ 0 → on n ≡ false
-unfolding on
-on-zero n e = rw e
 
 module _ (s : Settings) where
   -- something drawn before
@@ -75,24 +74,12 @@ module _ (s : Settings) (deck pool : Bytes) where
       }
 
   pub line-whole :
-      (x : Spot) (i : ℕ) (r : Cursor) {P₀ P₁ P₂ P₃ : Pen} → P₀ .w .flow ≡ 0 → P₀ .w .key ≡ 0 → i ≡ stepOf s
-      → Draws (props (broughtIn deck pool x)) P₀ P₁
-      → Emits s (contentOf s (on (P₁ .w .flow)) (on (P₁ .w .key)) i (x .place) (keptIn deck pool x) (broughtIn deck pool x) (kindIn deck pool x)) P₁ P₂ (x .place) (endIn deck pool x) r (length deck)
-      → Draws (closes (x .place) (remarkOf deck pool (x .lead .remark))) P₂ P₃
-      → Emits s (lineRoot s deck pool x) P₀ P₃ (x .place) (endIn deck pool x) r (length deck)
-  unfolding ink lineRoot inlined closes keptOf
-  line-whole x i r {P₀} {P₁} {P₂} f k e d m z =
-      let y = d .drawn s in
-      let f₁ : on (P₁ .w .flow) ≡ false = on-zero (P₁ .w .flow) (flow-of s (props (broughtIn deck pool x)) P₀ P₁ y ∙ f) in
-      let k₁ : on (P₁ .w .key) ≡ false = on-zero (P₁ .w .key) (key-of s (props (broughtIn deck pool x)) P₀ P₁ y ∙ k) in
-      let a : Script = contentOf s false false (stepOf s) (x .place) (keptIn deck pool x) (broughtIn deck pool x) (kindIn deck pool x) in
-      let u : P₂ ≡ ink s a P₁ = rw (f₁, k₁, e) at (m .drawn) in
-      record {
-        drawn = z .drawn s ∙ ap (ink s (closes (x .place) (remarkOf deck pool (x .lead .remark)))) (u ∙ ap (ink s a) y);
-        next = m .next;
-        onward = m .onward;
-        within = m .within;
-      }
+      (x : Spot) (i f k : ℕ) (r : Cursor) {P Q : Pen} → f ≡ 0 → k ≡ 0 → i ≡ stepOf s
+      → Emits s (lineOf s (on f) (on k) Value i (nodeIn deck pool x)) P Q (x .place) (endIn deck pool x) r (length deck)
+      → Emits s (lineRoot s deck pool x) P Q (x .place) (endIn deck pool x) r (length deck)
+  unfolding lineRoot nodeIn content
+  line-whole x i f k r h g e m =
+      rw (calm-line s Value i f k (nodeIn deck pool x) h g, e, line-value s false false (stepOf s) (x .place) (keptIn deck pool x) (broughtIn deck pool x) (kindIn deck pool x)) at m
 
   abbrev bodyIn : Spot → Script
   bodyIn x = body s (nodeIn deck pool x)

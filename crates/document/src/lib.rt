@@ -2,6 +2,7 @@
 use definition::Cursor;
 use definition::Settings;
 use flow::Emitted;
+use joints::Manner;
 use node::Lead;
 use node::Origin;
 use parts::Entries;
@@ -128,12 +129,8 @@ fn put_inlined(
     requires { ⌜ (Calm settings (now deck) (now pool) (pen w (now out)) (x .place) 0) × Good (now deck) x × (countIn (x .body) < 65536) ⌝ }
     ensures { λ r. ⌜ Emits settings (lineRoot settings (now (deck .entry)) (now (pool .entry)) x) (pen w (now (out .entry))) (pen (r .w) (now (out .exit))) (x .place) (endIn (now (deck .entry)) (now (pool .entry)) x) (r .next) (length (now (deck .entry))) ⌝ }
 {
-    let w1 = parts::put_props(w, deck, pool, out, x.lead.tag, x.lead.anchor);
     let i = choices::step_of(settings);
-    let e = flow::content(w1, deck, pool, out, settings, x, i);
-    let next = e.next;
-    let v1 = parts::put_close(e.w, deck, pool, out, x.place, x.lead.remark);
-    Emitted { w: v1, next }
+    flow::line(w, deck, pool, out, settings, x, i, Manner::Value)
 }
 
 // What stands between a document's head and foot comments.

@@ -3,18 +3,18 @@
 use mathlib.Core.Path.{_≡_, refl, sym, ap, _∙_}
 use Prim.Native.Nat.{ℕ, zero, suc, _+_, _-_, _<_, _≤_}
 use native.Mathlib.Omega.{arith}
-use mathlib.Core.Bool.{Bool, true, false}
+use mathlib.Core.Bool.{Bool, true, false, not}
 use mathlib.Core.List.{[], _∷_}
 use lib.ListN.{length}
-use lib.Dec.{eqb}
+use lib.Dec.{eqb, ltb}
 use borrow.Author.Tests.{ne-eqb}
 use Rattle.definition.specs.Base.{Bytes, if_then_else_, spaces}
 use Rattle.definition.specs.Ascii.{LF, SP, '*'}
 use Rattle.definition.specs.Settings.{stepOf}
 use Rattle.definition.specs.Deck.{words, marked, layoutOf}
-use Rattle.definition.specs.Tree.{place, kept, brought}
+use Rattle.definition.specs.Tree.{place, kept}
 use Rattle.definition.specs.Pen.{Script, comma, _>>_, nothing, newline, indent, sign}
-use Rattle.definition.specs.Walk.{props, inlineKey, colon, content, contentOf, replays, fresh, nullText}
+use Rattle.definition.specs.Walk.{props, content, contentOf, replays, fresh, nullText}
 use Rattle.definition.specs.declared.Cursor.{Cursor}
 use Rattle.definition.specs.declared.Group.{Group}
 use Rattle.definition.specs.declared.Text.{Text}
@@ -27,13 +27,16 @@ use Rattle.scripts.specs.Keep.{withFlow, withKey, ink-in-flow, ink-in-key, flow
 use Rattle.parts.specs.Draws.{Draws}
 use Rattle.spot.specs.declared.Body.the-variants as body
 use Rattle.spot.specs.declared.Spot.{Spot}
-use Rattle.spot.specs.Spot.{kindOf, endOf, keptIn, broughtIn, kindIn, endIn, nodeIn, spotAt, tree-value, tree-end}
-use Rattle.spot.specs.Good.{Good, isGroup, countIn, spot-good}
+use Rattle.spot.specs.Spot.{kindOf, endOf, keptIn, broughtIn, kindIn, endIn, nodeIn, spotAt, tree-value}
+use Rattle.spot.specs.Good.{Good, isGroup, countIn}
 use Rattle.atoms.specs.Atoms.{on, nullIn, commented, freshIn}
 use Rattle.choices.specs.Siblings.{SomeItems, SomePairs}
-use Rattle.joints.specs.Told.{Colon, LastOf}
+use Rattle.joints.specs.declared.Manner.{Manner}
+use Rattle.joints.specs.declared.Manner.the-variants.{Entry, Key}
+use Rattle.joints.specs.Line.{rankOf, dressed, inKey, keyMark, ending, lineOf, line-key, line-entry}
+use Rattle.joints.specs.Told.{LastOf}
 use Rattle.joints.specs.Entries.{nodeAt, nextAt, lastOf, entryEnd, runEnd, someComments, itemOf, keyOf, entryKey, entryOf, flowRun, linedBefore, linedAfter, linedOf, isNone, linedRun, opening, closing, linedIn, plainIn, groupOf, group-items, group-pairs, items-end, pairs-end}
-use Rattle.flow.specs.Ready.{Ready, Emits, AnyComments, after, further, keyed, inside}
+use Rattle.flow.specs.Ready.{Ready, Emits, AnyComments, after, further, keyed, inside, at-cursor}
 
 -- ---- the marks of a pen: in flow, in a key
 
@@ -61,6 +64,15 @@ keyed-is w v n out e = rw e
 pub flowed-is : (w v : Writer) (n : ℕ) (out : Bytes) → v ≡ withFlow n (pen w []) .w → pen v out ≡ withFlow n (pen w out)
 unfolding withFlow
 flowed-is w v n out e = rw e
+
+-- the mark inside a node
+mark-on : (m : Manner) (n : ℕ) → on (keyMark m n) ≡ inKey m (on n)
+unfolding on keyMark inKey
+mark-on m n = go (ltb 2 (rankOf m))
+  where
+    go : (b : Bool) → not (eqb (if b then 1 else n) 0) ≡ (if b then true else not (eqb n 0))
+    go true = refl
+    go false = refl
 
 last-is : (m : ℕ) → eqb (suc m) 1 ≡ isNone m
 unfolding isNone
@@ -298,69 +310,51 @@ module _ (s : Settings) (deck pool : Bytes) where
   -- ---- the node at a cursor
 
   pub item-whole :
-      (c r : Cursor) (x : Spot) (i : ℕ) {P₀ P₁ P₂ : Pen} → c .at ≤ length deck → length deck ≤ 65536 → x ≡ spotAt deck c
-      → Draws (props (broughtOf deck pool (x .lead))) P₀ P₁
-      → Emits s (contentIn P₁ i x) P₁ P₂ (x .place) (endIn deck pool x) r (length deck)
-      → Emits s (itemOf deck pool s (F P₀) (K P₀) i (nodeAt deck pool c)) P₀ P₂ (c .at) (nextAt deck pool c) r (length deck)
-  unfolding ink itemOf content brought nodeIn
-  item-whole c r x i {P₀} {P₁} k b e d m =
-      let g = spot-good deck c x k b e in
-      let o = m .onward in
-      let y = d .drawn s in
-      let z : ink s (contentIn P₁ i x) P₁ ≡ ink s (contentIn P₀ i x) P₁ = let f₁ : F P₁ ≡ F P₀ = flow-kept s (props (broughtOf deck pool (x .lead))) P₀ P₁ y in let k₁ : K P₁ ≡ K P₀ = key-kept s (props (broughtOf deck pool (x .lead))) P₀ P₁ y in rw (f₁, k₁) in
-      record {
-        drawn = rw (tree-value deck pool c k, ← e) (m .drawn ∙ z ∙ ap (ink s (contentIn P₀ i x)) y);
-        next = m .next ∙ rw (tree-end deck pool c k, ← e);
-        onward = omega (arith, o, g .1);
-        within = m .within;
-      }
+      (c r : Cursor) (x : Spot) (f k : Bool) (i : ℕ) {P Q : Pen} → c .at ≤ length deck → length deck ≤ 65536 → x ≡ spotAt deck c
+      → Emits s (lineOf s f k Entry i (nodeIn deck pool x)) P Q (x .place) (endIn deck pool x) r (length deck)
+      → Emits s (itemOf deck pool s f k i (nodeAt deck pool c)) P Q (c .at) (nextAt deck pool c) r (length deck)
+  item-whole c r x f k i {P} h b e m =
+      let d = at-cursor s deck pool c r x (lineOf s f k Entry i) h b e m in
+      record { drawn = d .drawn ∙ line-entry deck pool s f k i (nodeAt deck pool c) P; next = d .next; onward = d .onward; within = d .within }
 
-  key-whole :
-      (r : Cursor) (x : Spot) (i n : ℕ) {P₀ P₁ P₂ P₃ P₄ : Pen} → Draws (props (broughtOf deck pool (x .lead))) P₀ P₁
-      → Emits s (contentIn (withKey 1 P₁) i x) (withKey 1 P₁) P₂ (x .place) (endIn deck pool x) r (length deck)
-      → n ≡ P₀ .w .key → P₃ ≡ withKey n P₂ → Colon (x .body) P₃ P₄
-      → Emits s (keyOf deck pool s (F P₀) (K P₀) i (nodeIn deck pool x)) P₀ P₄ (x .place) (endIn deck pool x) r (length deck)
-  unfolding ink keyOf inlineKey content brought nodeIn on
-  key-whole r x i n {P₀} {P₁} {P₂} {P₃} d m h q l =
+  line-whole :
+      (m : Manner) (r : Cursor) (x : Spot) (i n l : ℕ) {P₀ P₁ P₂ P₃ P₄ : Pen} → Draws (dressed m (props (broughtIn deck pool x))) P₀ P₁
+      → l ≡ keyMark m (P₀ .w .key) → Emits s (contentIn (withKey l P₁) i x) (withKey l P₁) P₂ (x .place) (endIn deck pool x) r (length deck)
+      → n ≡ P₀ .w .key → P₃ ≡ withKey n P₂ → Draws (ending m (x .place) (keptIn deck pool x) (kindIn deck pool x)) P₃ P₄
+      → Emits s (lineOf s (F P₀) (K P₀) m i (nodeIn deck pool x)) P₀ P₄ (x .place) (endIn deck pool x) r (length deck)
+  unfolding ink lineOf content nodeIn
+  line-whole m r x i n l {P₀} {P₁} {P₂} {P₃} d t e h q z =
       let y = d .drawn s in
-      let a : Script = contentOf s (F P₁) true i (x .place) (keptIn deck pool x) (broughtIn deck pool x) (kindIn deck pool x) in
-      let u : P₂ ≡ ink s a (withKey 1 P₁) = unfold withKey in m .drawn in
-      let v : P₃ ≡ ink s a P₁ = q ∙ ap (λ (m : ℕ). withKey m P₂) (h ∙ sym (key-of s (props (broughtOf deck pool (x .lead))) P₀ P₁ y)) ∙ ap (withKey (P₁ .w .key)) u ∙ ink-in-key s a 1 P₁ in
-      let a₀ : Script = contentOf s (F P₀) true i (x .place) (keptIn deck pool x) (broughtIn deck pool x) (kindIn deck pool x) in
-      let z : ink s a P₁ ≡ ink s a₀ P₁ = let f₁ : F P₁ ≡ F P₀ = flow-kept s (props (broughtOf deck pool (x .lead))) P₀ P₁ y in rw f₁ in
+      let a : Script = contentOf s (F P₁) (on l) i (x .place) (keptIn deck pool x) (broughtIn deck pool x) (kindIn deck pool x) in
+      let u : P₂ ≡ ink s a (withKey l P₁) = unfold withKey in e .drawn in
+      let v : P₃ ≡ ink s a P₁ = q ∙ ap (λ (j : ℕ). withKey j P₂) (h ∙ sym (key-of s (dressed m (props (broughtIn deck pool x))) P₀ P₁ y)) ∙ ap (withKey (P₁ .w .key)) u ∙ ink-in-key s a l P₁ in
+      let a₀ : Script = contentOf s (F P₀) (inKey m (K P₀)) i (x .place) (keptIn deck pool x) (broughtIn deck pool x) (kindIn deck pool x) in
+      let w : ink s a P₁ ≡ ink s a₀ P₁ = let f₁ : F P₁ ≡ F P₀ = flow-kept s (dressed m (props (broughtIn deck pool x))) P₀ P₁ y in let k₁ : on l ≡ inKey m (K P₀) = ap on t ∙ mark-on m (P₀ .w .key) in rw (f₁, k₁) in
       record {
-        drawn = l .drawn deck pool (x .next) .drawn s ∙ ap (ink s (colon (kindIn deck pool x))) (v ∙ z ∙ ap (ink s a₀) y);
-        next = m .next;
-        onward = m .onward;
-        within = m .within;
+        drawn = z .drawn s ∙ ap (ink s (ending m (x .place) (keptIn deck pool x) (kindIn deck pool x))) (v ∙ w ∙ ap (ink s a₀) y);
+        next = e .next;
+        onward = e .onward;
+        within = e .within;
       }
 
   -- the same of writers: the key mark set, and set back
-  pub key-whole-is :
-      (r : Cursor) (x : Spot) (i : ℕ) (w w₁ w₂ u v : Writer) (out out₁ out₂ : Bytes) {P : Pen}
-      → Draws (props (broughtOf deck pool (x .lead))) (pen w out) (pen w₁ out₁) → w₂ ≡ withKey 1 (pen w₁ []) .w
+  pub line-whole-is :
+      (m : Manner) (r : Cursor) (x : Spot) (i l : ℕ) (w w₁ w₂ u v : Writer) (out out₁ out₂ : Bytes) {P : Pen}
+      → Draws (dressed m (props (broughtIn deck pool x))) (pen w out) (pen w₁ out₁) → l ≡ keyMark m (w .key) → w₂ ≡ withKey l (pen w₁ []) .w
       → Emits s (contentIn (pen w₂ out₁) i x) (pen w₂ out₁) (pen u out₂) (x .place) (endIn deck pool x) r (length deck)
-      → v ≡ withKey (w .key) (pen u []) .w → Colon (x .body) (pen v out₂) P
-      → Emits s (keyOf deck pool s (on (w .flow)) (on (w .key)) i (nodeIn deck pool x)) (pen w out) P (x .place) (endIn deck pool x) r (length deck)
+      → v ≡ withKey (w .key) (pen u []) .w → Draws (ending m (x .place) (keptIn deck pool x) (kindIn deck pool x)) (pen v out₂) P
+      → Emits s (lineOf s (on (w .flow)) (on (w .key)) m i (nodeIn deck pool x)) (pen w out) P (x .place) (endIn deck pool x) r (length deck)
   unfolding withKey
-  key-whole-is r x i w w₁ w₂ u v out out₁ out₂ d a m q l =
-      let n : Emits s (contentIn (withKey 1 (pen w₁ out₁)) i x) (withKey 1 (pen w₁ out₁)) (pen u out₂) (x .place) (endIn deck pool x) r (length deck) = rw a at m in
-      key-whole r x i (w .key) d n refl (keyed-is u v (w .key) out₂ q) l
+  line-whole-is m r x i l w w₁ w₂ u v out out₁ out₂ d t a e q z =
+      let n : Emits s (contentIn (withKey l (pen w₁ out₁)) i x) (withKey l (pen w₁ out₁)) (pen u out₂) (x .place) (endIn deck pool x) r (length deck) = rw a at e in
+      line-whole m r x i (w .key) l d t n refl (keyed-is u v (w .key) out₂ q) z
 
-  -- from the key that was read to the one at its cursor
+  -- the key at its cursor
   pub key-there :
       (c r : Cursor) (x : Spot) (f k : Bool) (i : ℕ) {P Q : Pen} → c .at ≤ length deck → length deck ≤ 65536 → x ≡ spotAt deck c
-      → Emits s (keyOf deck pool s f k i (nodeIn deck pool x)) P Q (x .place) (endIn deck pool x) r (length deck)
+      → Emits s (lineOf s f k Key i (nodeIn deck pool x)) P Q (x .place) (endIn deck pool x) r (length deck)
       → Emits s (keyOf deck pool s f k i (nodeAt deck pool c)) P Q (c .at) (nextAt deck pool c) r (length deck)
-  key-there c r x f k i h b e m =
-      let g = spot-good deck c x h b e in
-      let o = m .onward in
-      record {
-        drawn = rw (tree-value deck pool c h, ← e) (m .drawn);
-        next = m .next ∙ rw (tree-end deck pool c h, ← e);
-        onward = omega (arith, o, g .1);
-        within = m .within;
-      }
+  key-there c r x f k i h b e m = rw (line-key deck pool s f k i (nodeAt deck pool c)) at (at-cursor s deck pool c r x (lineOf s f k Key i) h b e m)
 
   pub lined-entry-whole :
       (pairs last : Bool) (c to r : Cursor) (x : Spot) (i : ℕ) {P₀ P₁ P₂ P₃ : Pen} → LastOf deck pairs c to → x ≡ spotAt deck to

@@ -1,5 +1,5 @@
 -- What a function of the emitter asks for, and what it does.
-use mathlib.Core.Path.{_≡_, ap}
+use mathlib.Core.Path.{_≡_, ap, _∙_}
 use Prim.Native.Nat.{ℕ, _+_, _-_, _*_, _<_, _≤_}
 use native.Mathlib.Omega.{arith}
 use mathlib.Core.Bool.{Bool, true, false}
@@ -7,13 +7,17 @@ use lib.ListN.{length}
 use lib.Dec.{eqb}
 use Rattle.definition.specs.Base.{Bytes, if_then_else_}
 use Rattle.definition.specs.Settings.{stepOf}
+use Rattle.definition.specs.Tree.{Node}
 use Rattle.definition.specs.Pen.{Script}
 use Rattle.definition.specs.declared.Cursor.{Cursor}
 use Rattle.definition.specs.declared.Settings.{Settings}
 use Rattle.pen.specs.Pen.{Pen, ink}
 use Rattle.scripts.specs.Keep.{Fit, length-of, ink-length, ink-flow, fit-of, withFlow, withKey, with-flow-fit, with-key-fit}
 use Rattle.parts.specs.Draws.{Draws}
-use Rattle.joints.specs.Entries.{someComments}
+use Rattle.spot.specs.declared.Spot.{Spot}
+use Rattle.spot.specs.Spot.{endIn, nodeIn, spotAt, tree-value, tree-end}
+use Rattle.spot.specs.Good.{spot-good}
+use Rattle.joints.specs.Entries.{nodeAt, nextAt, someComments}
 
 -- deck, pool and output are within their limits; from this place of the deck on, neither the indent nor the depth of flow collections can grow too
 -- large, since each level is further on in the deck
@@ -125,3 +129,17 @@ module _ {s : Settings} {deck pool : Bytes} where
         flow = r .flow;
         fit = with-key-fit n P (r .fit);
       }
+
+-- from the node that was read to the tree at its cursor
+pub at-cursor :
+    (s : Settings) (deck pool : Bytes) (c r : Cursor) (x : Spot) (f : Node → Script) {P Q : Pen} → c .at ≤ length deck → length deck ≤ 65536 → x ≡ spotAt deck c
+    → Emits s (f (nodeIn deck pool x)) P Q (x .place) (endIn deck pool x) r (length deck) → Emits s (f (nodeAt deck pool c)) P Q (c .at) (nextAt deck pool c) r (length deck)
+at-cursor s deck pool c r x f h b e m =
+    let g = spot-good deck c x h b e in
+    let o = m .onward in
+    record {
+      drawn = rw (tree-value deck pool c h, ← e) (m .drawn);
+      next = m .next ∙ rw (tree-end deck pool c h, ← e);
+      onward = omega (arith, o, g .1);
+      within = m .within;
+    }

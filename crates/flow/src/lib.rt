@@ -1,6 +1,7 @@
-// The content of a node on one line: inline content, keys, flow collections. The first cycle of calls; nothing here knows of block layout.
+// A node on one line: its content, keys, flow collections. The first cycle of calls; nothing here knows of block layout.
 use definition::Cursor;
 use definition::Settings;
+use joints::Manner;
 use pen::Writer;
 use spot::Body;
 use spot::Spot;
@@ -16,7 +17,8 @@ ghost use Rattle.scripts.specs.Keep.{withFlow};
 ghost use Rattle.spot.specs.Spot.{keptIn, broughtIn, kindIn, nodeIn, endIn};
 ghost use Rattle.spot.specs.Good.{Good, countIn};
 ghost use Rattle.atoms.specs.Atoms.{on};
-ghost use Rattle.joints.specs.Entries.{nodeAt, nextAt, lastOf, entryEnd, runEnd, itemOf, keyOf, entryKey, entryOf, flowRun, linedOf, linedRun, linedIn, plainIn, groupOf};
+ghost use Rattle.joints.specs.Line.{lineOf};
+ghost use Rattle.joints.specs.Entries.{nodeAt, nextAt, lastOf, entryEnd, runEnd, itemOf, entryKey, entryOf, flowRun, linedOf, linedRun, linedIn, plainIn, groupOf};
 ghost use Rattle.flow.specs.Ready.{Ready, Emits, AnyComments};
 
 // The writer after something was written, and the cursor after it in the deck.
@@ -47,7 +49,7 @@ fn back(e: Emitted, flow: usize) -> Emitted
 
 // `emit_inline_content` of a node. A flow collection is entered and left here, and not in `group`: only there the writer is handed on, so that for
 // a scalar it need not be kept in memory.
-pub fn content(
+fn content(
     w: Writer,
     deck: &[u8],
     pool: &[u8],
@@ -268,7 +270,7 @@ fn entry_key(
 {
     if pairs {
         let x = spot::spot_at(deck, c);
-        let e = key(w, deck, pool, out, settings, x, i);
+        let e = line(w, deck, pool, out, settings, x, i, Manner::Key);
         let next = e.next;
         let v1 = e.w.byte(out, b' ');
         return Emitted { w: v1, next };
@@ -295,8 +297,8 @@ fn flow_entry(
     item(e.w, deck, pool, out, settings, next, i)
 }
 
-// `emit_key`: a key with its properties and its colon.
-pub fn key(
+// A node on its line: its properties, its content, what ends it. The one caller of `content`, so that the compiler needs no copy of the node for it.
+pub fn line(
     w: Writer,
     deck: &[u8],
     pool: &[u8],
@@ -304,23 +306,23 @@ pub fn key(
     settings: Settings,
     x: Spot,
     i: usize,
+    manner: Manner,
 ) -> Emitted
     requires { ⌜ (Ready settings (now deck) (now pool) (pen w (now out)) (x .place) i) × Good (now deck) x × (countIn (x .body) < 65536) ⌝ }
-    ensures { λ r. ⌜ Emits settings (keyOf (now (deck .entry)) (now (pool .entry)) settings (on (w .flow)) (on (w .key)) i (nodeIn (now (deck .entry)) (now (pool .entry)) x)) (pen w (now (out .entry))) (pen (r .w) (now (out .exit))) (x .place) (endIn (now (deck .entry)) (now (pool .entry)) x) (r .next) (length (now (deck .entry))) ⌝ }
+    ensures { λ r. ⌜ Emits settings (lineOf settings (on (w .flow)) (on (w .key)) manner i (nodeIn (now (deck .entry)) (now (pool .entry)) x)) (pen w (now (out .entry))) (pen (r .w) (now (out .exit))) (x .place) (endIn (now (deck .entry)) (now (pool .entry)) x) (r .next) (length (now (deck .entry))) ⌝ }
 {
     let mark = w.key;
-    let w1 = parts::put_props(w, deck, pool, out, x.lead.tag, x.lead.anchor);
-    let w2 = joints::with_key(w1, 1);
+    let w1 = joints::put_dress(w, deck, pool, out, x, manner);
+    let w2 = joints::with_key(w1, joints::key_in(manner, mark));
     let e = content(w2, deck, pool, out, settings, x, i);
     let next = e.next;
     let v = joints::with_key(e.w, mark);
-    let body = x.body;
-    let v1 = joints::put_colon(v, out, body);
+    let v1 = joints::put_ending(v, deck, pool, out, x, manner);
     Emitted { w: v1, next }
 }
 
-// The node at a cursor, with its properties.
-pub fn item(
+// The node at a cursor, as an entry.
+fn item(
     w: Writer,
     deck: &[u8],
     pool: &[u8],
@@ -333,6 +335,5 @@ pub fn item(
     ensures { λ r. ⌜ Emits settings (itemOf (now (deck .entry)) (now (pool .entry)) settings (on (w .flow)) (on (w .key)) i (nodeAt (now (deck .entry)) (now (pool .entry)) c)) (pen w (now (out .entry))) (pen (r .w) (now (out .exit))) (c .at) (nextAt (now (deck .entry)) (now (pool .entry)) c) (r .next) (length (now (deck .entry))) ⌝ }
 {
     let x = spot::spot_at(deck, c);
-    let w1 = parts::put_props(w, deck, pool, out, x.lead.tag, x.lead.anchor);
-    content(w1, deck, pool, out, settings, x, i)
+    line(w, deck, pool, out, settings, x, i, Manner::Entry)
 }

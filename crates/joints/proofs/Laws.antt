@@ -1,12 +1,14 @@
 -- Laws of what stands between entries.
 -- Assumes nothing.
-use mathlib.Core.Path.{_≡_, refl}
-use Prim.Native.Nat.{ℕ, _≤_}
+use mathlib.Core.Path.{_≡_, refl, sym, ap}
+use Prim.Native.Nat.{ℕ, _<_, _≤_}
 use native.Mathlib.Omega.{arith}
 use mathlib.Core.Bool.{Bool, true, false}
 use mathlib.Core.List.{[], _∷_}
 use lib.ListN.{length}
-use Rattle.definition.specs.Base.{Bytes, spaces}
+use lib.Dec.{ltb}
+use borrow.Author.Tests.{lt-ltb, le-ltb}
+use Rattle.definition.specs.Base.{Bytes, if_then_else_, spaces}
 use Rattle.definition.specs.Ascii.{SP, ':'}
 use Rattle.definition.specs.Tree.{kept}
 use Rattle.definition.specs.Pen.{mark, space, sign, indent}
@@ -27,6 +29,8 @@ use Rattle.spot.specs.declared.Body.the-variants as body
 use Rattle.spot.specs.declared.Spot.{Spot}
 use Rattle.spot.specs.Spot.{kindOf, spotAt, nodeIn, tree-value}
 use Rattle.spot.specs.Good.{good-at}
+use Rattle.joints.specs.declared.Manner.{Manner}
+use Rattle.joints.specs.Line.{rankOf, keyMark}
 use Rattle.joints.specs.Entries.{lastOf, keyHeads, linedBefore}
 use Rattle.joints.specs.Told.{Colon, LastOf}
 
@@ -37,6 +41,18 @@ last-value deck pairs c r e h = record { is = λ pool. rw e (h .tree pool); onwa
 pub last-item : (deck : Bytes) (pairs : Bool) (c : Cursor) → pairs ≡ false → c .at ≤ length deck → LastOf deck pairs c c
 unfolding lastOf
 last-item deck pairs c e h = record { is = λ pool. rw e; onward = omega arith; within = h }
+
+-- ---- the key mark
+
+mark-is : (m : Manner) (k : ℕ) (b : Bool) → ltb 2 (rankOf m) ≡ b → (if b then 1 else k) ≡ keyMark m k
+unfolding keyMark
+mark-is m k b t = sym (ap (λ (x : Bool). if x then 1 else k) t)
+
+pub in-key : (m : Manner) (n k : ℕ) → n ≡ rankOf m → 2 < n → 1 ≡ keyMark m k
+in-key m n k e t = mark-is m k true (lt-ltb 2 (rankOf m) (rw e at t))
+
+pub out-of-key : (m : Manner) (n k : ℕ) → n ≡ rankOf m → n ≤ 2 → k ≡ keyMark m k
+out-of-key m n k e t = mark-is m k false (le-ltb 2 (rankOf m) (rw e at t))
 
 -- ---- the colon
 

@@ -1,4 +1,4 @@
-// What stands between and around the entries of a flow collection, and the marks of a run: in flow, in a key.
+// What stands around a node on its line, between and around the entries of a flow collection, and the marks of a run: in flow, in a key.
 use definition::Cursor;
 use definition::Settings;
 use node::Lead;
@@ -6,6 +6,7 @@ use node::Remark;
 use parts::Entries;
 use pen::Writer;
 use spot::Body;
+use spot::Spot;
 ghost use mathlib.Core.Path.{_≡_};
 ghost use Prim.Native.Nat.{_<_, _≤_, _^_};
 ghost use mathlib.Core.List.{[]};
@@ -13,13 +14,16 @@ ghost use lib.ListN.{length};
 ghost use Rattle.definition.specs.Base.{if_then_else_};
 ghost use Rattle.definition.specs.Ascii.{COMMA};
 ghost use Rattle.definition.specs.Pen.{comma, nothing, sign};
+ghost use Rattle.definition.specs.Walk.{props};
 ghost use Rattle.node.specs.Total.{keptOf, remarkOf};
 ghost use Rattle.pen.specs.Pen.{pen, ink};
 ghost use Rattle.scripts.specs.Keep.{withFlow, withKey};
 ghost use Rattle.parts.specs.Draws.{Draws};
 ghost use Rattle.parts.specs.Runs.{Short};
+ghost use Rattle.spot.specs.Spot.{keptIn, broughtIn, kindIn};
 ghost use Rattle.atoms.specs.Atoms.{on};
 ghost use Rattle.joints.specs.Told.{Colon, LastOf};
+ghost use Rattle.joints.specs.Line.{rankOf, dressed, keyMark, ending};
 ghost use Rattle.joints.specs.Entries.{keyHeads, linedBefore, linedAfter, opening, closing};
 
 pub fn with_flow(mut w: Writer, n: usize) -> Writer
@@ -49,7 +53,7 @@ pub fn put_between(w: Writer, out: &mut [u8], settings: Settings, first: bool, i
 }
 
 // `end_inline_key`
-pub fn put_colon(w: Writer, out: &mut [u8], body: Body) -> Writer
+fn put_colon(w: Writer, out: &mut [u8], body: Body) -> Writer
     requires { ⌜ length (now out) < 2 ^ 62 ⌝ }
     ensures { λ r. ⌜ Colon body (pen w (now (out .entry))) (pen r (now (out .exit))) ⌝ }
 {
@@ -60,6 +64,83 @@ pub fn put_colon(w: Writer, out: &mut [u8], body: Body) -> Writer
         Body::Sequence(_) => w.byte(out, b':'),
         Body::Mapping(_) => w.byte(out, b':'),
     }
+}
+
+// How a node stands on its line: an entry of a flow collection; a value, to the end of the line; a value below its introducer, whose properties
+// are written already; a key before its colon; a key after `?`.
+pub enum Manner {
+    Entry,
+    Value,
+    Below,
+    Key,
+    Asked,
+}
+
+// A number for each, in that order: 3 and 4 are keys.
+fn rank_of(manner: Manner) -> usize
+    ensures { λ r. ⌜ r ≡ rankOf manner ⌝ }
+{
+    match manner {
+        Manner::Entry => 0,
+        Manner::Value => 1,
+        Manner::Below => 2,
+        Manner::Key => 3,
+        Manner::Asked => 4,
+    }
+}
+
+// A node's properties, where they are not written already.
+pub fn put_dress(
+    w: Writer,
+    deck: &[u8],
+    pool: &[u8],
+    out: &mut [u8],
+    x: Spot,
+    manner: Manner,
+) -> Writer
+    requires { ⌜ length (now out) < 2 ^ 62 ⌝ }
+    ensures { λ r. ⌜ Draws (dressed manner (props (broughtIn (now (deck .entry)) (now (pool .entry)) x))) (pen w (now (out .entry))) (pen r (now (out .exit))) ⌝ }
+{
+    if rank_of(manner) == 2 {
+        return w;
+    }
+    parts::put_props(w, deck, pool, out, x.lead.tag, x.lead.anchor)
+}
+
+// The key mark inside a node, where it is `mark` outside.
+pub fn key_in(manner: Manner, mark: usize) -> usize
+    ensures { λ r. ⌜ r ≡ keyMark manner mark ⌝ }
+{
+    if rank_of(manner) > 2 {
+        return 1;
+    }
+    mark
+}
+
+// What ends a node's line, or follows it there.
+pub fn put_ending(
+    w: Writer,
+    deck: &[u8],
+    pool: &[u8],
+    out: &mut [u8],
+    x: Spot,
+    manner: Manner,
+) -> Writer
+    requires { ⌜ (length (now out) < 2 ^ 62) × (x .place < 2 ^ 62) ⌝ }
+    ensures { λ r. ⌜ Draws (ending manner (x .place) (keptIn (now (deck .entry)) (now (pool .entry)) x) (kindIn (now (deck .entry)) (now (pool .entry)) x)) (pen w (now (out .entry))) (pen r (now (out .exit))) ⌝ }
+{
+    let rank = rank_of(manner);
+    if rank == 0 {
+        return w;
+    }
+    if rank == 1 {
+        return parts::put_close(w, deck, pool, out, x.place, x.lead.remark);
+    }
+    if rank == 3 {
+        let body = x.body;
+        return put_colon(w, out, body);
+    }
+    w.end_line(out)
 }
 
 // The head comments of the key of a pair.

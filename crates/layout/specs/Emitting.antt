@@ -1,18 +1,20 @@
--- Emission in steps: what is drawn before and after it, and content in no flow collection and no key.
-use mathlib.Core.Path.{_≡_, ap, _∙_}
+-- Emission in steps: what is drawn before and after it, and lines in no flow collection and no key.
+use mathlib.Core.Path.{_≡_, refl, ap, _∙_}
 use Prim.Native.Nat.{ℕ, _≤_}
 use native.Mathlib.Omega.{arith}
 use mathlib.Core.Bool.{Bool, true, false}
-use Rattle.definition.specs.Base.{Bytes, if_then_else_}
+use Rattle.definition.specs.Base.{if_then_else_}
 use Rattle.definition.specs.Pen.{Script, _>>_}
-use Rattle.definition.specs.Walk.{content, contentOf}
+use Rattle.definition.specs.Tree.{Kept, Brought, Kind, Node, node}
+use Rattle.definition.specs.Walk.{inlined, content}
 use Rattle.definition.specs.declared.Cursor.{Cursor}
 use Rattle.definition.specs.declared.Settings.{Settings}
 use Rattle.pen.specs.Pen.{Pen, ink}
 use Rattle.parts.specs.Draws.{Draws}
-use Rattle.spot.specs.declared.Spot.{Spot}
-use Rattle.spot.specs.Spot.{keptIn, broughtIn, kindIn, nodeIn}
 use Rattle.atoms.specs.Atoms.{on}
+use Rattle.joints.specs.declared.Manner.{Manner}
+use Rattle.joints.specs.declared.Manner.the-variants.{Value}
+use Rattle.joints.specs.Line.{rankOf, dressed, inKey, ending, lineOf}
 use Rattle.flow.specs.Ready.{Emits}
 
 module _ {s : Settings} {st : ℕ} {z r : Cursor} {l : ℕ} where
@@ -37,8 +39,12 @@ module _ {s : Settings} {st : ℕ} {z r : Cursor} {l : ℕ} where
   pub earlier : {P Q : Pen} {a : Script} (n : ℕ) → n ≤ st → Emits s a P Q st z r l → Emits s a P Q n z r l
   earlier n h e = record { drawn = e .drawn; next = e .next; onward = (let o = e .onward in omega (arith, o, h)); within = e .within }
 
-pub calm-content :
-    (s : Settings) (deck pool : Bytes) (i f k : ℕ) (x : Spot) → f ≡ 0 → k ≡ 0
-    → contentOf s (on f) (on k) i (x .place) (keptIn deck pool x) (broughtIn deck pool x) (kindIn deck pool x) ≡ content s false false i (nodeIn deck pool x)
-unfolding content nodeIn on
-calm-content s deck pool i f k x e h = rw (e, h)
+-- a node on its line where no flow collection and no key is open
+pub calm-line : (s : Settings) (m : Manner) (i f k : ℕ) (n : Node) → f ≡ 0 → k ≡ 0 → lineOf s (on f) (on k) m i n ≡ lineOf s false false m i n
+unfolding on
+calm-line s m i f k n e h = rw (e, h)
+
+-- a value, to the end of the line
+pub line-value : (s : Settings) (f k : Bool) (i p : ℕ) (a : Kept) (b : Brought) (t : Kind) → lineOf s f k Value i (node p a b t) ≡ inlined p a b (content s f k i (node p a b t))
+unfolding lineOf dressed inKey ending rankOf inlined
+line-value s f k i p a b t = refl

@@ -2,6 +2,7 @@
 use definition::Cursor;
 use definition::Settings;
 use flow::Emitted;
+use joints::Manner;
 use node::Lead;
 use pen::Writer;
 use spot::Spot;
@@ -11,7 +12,7 @@ ghost use mathlib.Core.Bool.{false};
 ghost use lib.ListN.{length};
 ghost use Rattle.definition.specs.Base.{if_then_else_};
 ghost use Rattle.definition.specs.Pen.{nothing};
-ghost use Rattle.definition.specs.Walk.{belowIntroducer, inlined, valueOf, bare, content};
+ghost use Rattle.definition.specs.Walk.{belowIntroducer, valueOf, bare, content};
 ghost use Rattle.node.specs.Total.{keptOf};
 ghost use Rattle.pen.specs.Pen.{pen};
 ghost use Rattle.parts.specs.Draws.{Draws};
@@ -42,26 +43,6 @@ pub fn put_include(
     Emitted { w: w2, next }
 }
 
-// Content that stands on its introducer's line, to the line's end.
-pub fn put_inlined(
-    w: Writer,
-    deck: &[u8],
-    pool: &[u8],
-    out: &mut [u8],
-    settings: Settings,
-    x: Spot,
-    i: usize,
-) -> Emitted
-    requires { ⌜ (Ready settings (now deck) (now pool) (pen w (now out)) (x .place) i) × Good (now deck) x × (countIn (x .body) < 65536) × (w .flow ≡ 0) × (w .key ≡ 0) ⌝ }
-    ensures { λ r. ⌜ Emits settings (inlined (x .place) (keptIn (now (deck .entry)) (now (pool .entry)) x) (broughtIn (now (deck .entry)) (now (pool .entry)) x) (content settings false false i (nodeIn (now (deck .entry)) (now (pool .entry)) x))) (pen w (now (out .entry))) (pen (r .w) (now (out .exit))) (x .place) (endIn (now (deck .entry)) (now (pool .entry)) x) (r .next) (length (now (deck .entry))) ⌝ }
-{
-    let w1 = parts::put_props(w, deck, pool, out, x.lead.tag, x.lead.anchor);
-    let e = flow::content(w1, deck, pool, out, settings, x, i);
-    let next = e.next;
-    let v = parts::put_close(e.w, deck, pool, out, x.place, x.lead.remark);
-    Emitted { w: v, next }
-}
-
 // `emit_value_below_introducer`
 fn put_below(
     w: Writer,
@@ -76,10 +57,7 @@ fn put_below(
     ensures { λ r. ⌜ Emits settings (belowIntroducer (x .place) (keptIn (now (deck .entry)) (now (pool .entry)) x) (broughtIn (now (deck .entry)) (now (pool .entry)) x) i (content settings false false i (nodeIn (now (deck .entry)) (now (pool .entry)) x))) (pen w (now (out .entry))) (pen (r .w) (now (out .exit))) (x .place) (endIn (now (deck .entry)) (now (pool .entry)) x) (r .next) (length (now (deck .entry))) ⌝ }
 {
     let w1 = parts::put_below(w, deck, pool, out, x.place, x.lead, i);
-    let e = flow::content(w1, deck, pool, out, settings, x, i);
-    let next = e.next;
-    let v = e.w.end_line(out);
-    Emitted { w: v, next }
+    flow::line(w1, deck, pool, out, settings, x, i, Manner::Below)
 }
 
 // What is no block collection after `:` or `-`.
@@ -106,7 +84,7 @@ pub fn put_value(
         return put_below(w, deck, pool, out, settings, x, i);
     }
     let w1 = w.spaces(out, pen::at_least_one(x.lead.lines.pad));
-    put_inlined(w1, deck, pool, out, settings, x, i)
+    flow::line(w1, deck, pool, out, settings, x, i, Manner::Value)
 }
 
 // A key after `?` that stands on its line.
@@ -123,13 +101,7 @@ pub fn put_key_line(
     ensures { λ r. ⌜ Emits settings (keyLine settings i (broughtIn (now (deck .entry)) (now (pool .entry)) x) (nodeIn (now (deck .entry)) (now (pool .entry)) x)) (pen w (now (out .entry))) (pen (r .w) (now (out .exit))) (x .place) (endIn (now (deck .entry)) (now (pool .entry)) x) (r .next) (length (now (deck .entry))) ⌝ }
 {
     let w1 = w.byte(out, b' ');
-    let w2 = parts::put_props(w1, deck, pool, out, x.lead.tag, x.lead.anchor);
-    let w3 = joints::with_key(w2, 1);
-    let e = flow::content(w3, deck, pool, out, settings, x, i);
-    let next = e.next;
-    let u = joints::with_key(e.w, 0);
-    let v = u.end_line(out);
-    Emitted { w: v, next }
+    flow::line(w1, deck, pool, out, settings, x, i, Manner::Asked)
 }
 
 // What stands before an item or a pair, unless its line is begun already.

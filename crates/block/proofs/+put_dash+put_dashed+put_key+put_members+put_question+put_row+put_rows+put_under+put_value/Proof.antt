@@ -31,7 +31,7 @@ use Rattle.block.proofs.+put_dash+put_dashed+put_key+put_members+put_qu
 use Rattle.block.proofs.+put_dash+put_dashed+put_key+put_members+put_question+put_row+put_rows+put_under+put_value.Proof.Base.{μ-put-dash, μ-put-dashed, μ-put-key, μ-put-members, μ-put-question, μ-put-row, μ-put-rows, μ-put-under, μ-put-value, put-dash-at, put-dashed-at, put-key-at, put-members-at, put-question-at, put-row-at, put-row-below, put-rows-at, put-rows-below, put-under-at, put-value-at, put-dash-claims, put-dashed-claims, put-key-claims, put-question-claims, put-row-claims, put-under-claims, put-value-claims}
 use Rattle.block.proofs.+put_dash+put_dashed+put_key+put_members+put_question+put_row+put_rows+put_under+put_value.Proof.PutDash.{put-dash-byte-requires, put-dash-is-included-requires, put-dash-put-include-requires, put-dash-same-length, put-dash-returns, put-dash-is-block-requires, put-dash-put-dashed-requires, put-dash-same-length-2, put-dash-returns-2, put-dash-add-put-value, put-dash-put-value-requires, put-dash-same-length-3, put-dash-returns-3}
 use Rattle.block.proofs.+put_dash+put_dashed+put_key+put_members+put_question+put_row+put_rows+put_under+put_value.Proof.PutDashed.{put-dashed-on-dash-line-requires, put-dashed-byte-requires, put-dashed-add-put-members, put-dashed-put-members-requires, put-dashed-add-with-foots, put-dashed-with-foots-requires, put-dashed-same-length, put-dashed-returns, put-dashed-item-column-requires, put-dashed-add-put-under, put-dashed-put-under-requires, put-dashed-same-length-2, put-dashed-returns-2}
-use Rattle.block.proofs.+put_dash+put_dashed+put_key+put_members+put_question+put_row+put_rows+put_under+put_value.Proof.PutKey.{put-key-is-explicit-requires, put-key-byte-requires, put-key-put-question-requires, put-key-with-colon-requires, put-key-same-length, put-key-returns, put-key-key-requires, put-key-same-length-2, put-key-returns-2}
+use Rattle.block.proofs.+put_dash+put_dashed+put_key+put_members+put_question+put_row+put_rows+put_under+put_value.Proof.PutKey.{put-key-is-explicit-requires, put-key-byte-requires, put-key-put-question-requires, put-key-with-colon-requires, put-key-same-length, put-key-returns, put-key-line-requires, put-key-same-length-2, put-key-returns-2}
 use Rattle.block.proofs.+put_dash+put_dashed+put_key+put_members+put_question+put_row+put_rows+put_under+put_value.Proof.PutMembers.{put-members-enum-told, put-members-enum-told-2, put-members-enum-told-3, put-members-enum-known-body, put-members-put-rows-requires, put-members-enum-known-body-2, put-members-put-rows-requires-2, put-members-returns, put-members-returns-2, put-members-returns-3, put-members-same-length, put-members-returns-4, put-members-same-length-2, put-members-returns-5}
 use Rattle.block.proofs.+put_dash+put_dashed+put_key+put_members+put_question+put_row+put_rows+put_under+put_value.Proof.PutQuestion.{put-question-step-of-requires, put-question-add-j, put-question-is-block-requires, put-question-put-props-compact-requires, put-question-byte-requires, put-question-put-members-requires, put-question-same-length, put-question-returns, put-question-put-key-line-requires, put-question-same-length-2, put-question-returns-2}
 use Rattle.block.proofs.+put_dash+put_dashed+put_key+put_members+put_question+put_row+put_rows+put_under+put_value.Proof.PutRow.{put-row-spot-at-requires, put-row-put-before-requires, put-row-put-key-requires, put-row-put-value-requires, put-row-same-length, put-row-returns, put-row-put-dash-requires, put-row-same-length-2, put-row-returns-2}
@@ -93,7 +93,7 @@ pub +put-dash+put-dashed+put-key+put-members+put-question+put-row+put-rows+put-u
     (put-key-with-colon-requires t)
     (put-key-same-length t)
     (put-key-returns t)
-    (put-key-key-requires t)
+    (put-key-line-requires t)
     (put-key-same-length-2 t)
     (put-key-returns-2 t))
     (λ t. put-members-lts.spec

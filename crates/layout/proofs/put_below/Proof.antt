@@ -8,13 +8,9 @@ use Rattle.layout.proofs.put_below.Tie as tie
 put-below-requires : tie.Need-put-below-requires
 put-below-requires c κs = search needs
 
--- src/lib.rt:84:9
-content-requires : tie.Need-content-requires
-content-requires c κs = let p = (c .before .before .before .before .before .before .before .before .pre) in (after-drawn (p .0) (c .before .before .before .put-below .ensures), p .1, p .2)
-
--- src/lib.rt:87:9
-end-line-requires : tie.Need-end-line-requires
-end-line-requires c κs = search needs
+-- src/lib.rt:84:5
+line-requires : tie.Need-line-requires
+line-requires c κs = let p = c .before .before .before .before .before .before .before .before .pre in (after-drawn (p .0) (c .before .before .before .put-below .ensures), p .1, p .2)
 
 -- src/lib.rt:70:1
 same-length : tie.Need-same-length
@@ -22,8 +18,7 @@ same-length c = search needs
 
 -- src/lib.rt:70:1
 returns : tie.Need-returns
-returns c = let p = (c .before .before .before .before .before .before .before .before .before .before .before .before .before .before .before .before .pre) in below-whole _ _ _ _ _ _ _ _ _ _ (p .3) (p .4) (c .before .before .before .before .before .before .before .before .before .before .before .put-below .ensures) (c .before .before .before .before .before .before .before .content .ensures) (c .before .before .end-line .ensures)
+returns c = let p = c .before .before .before .before .before .before .before .before .before .before .before .pre in below-whole _ _ _ _ _ _ _ _ _ (p .3) (p .4) (c .before .before .before .before .before .before .put-below .ensures) (c .before .before .line .ensures)
 
 pub put-below-spec : {M : Type 1} → statement M
-put-below-spec =
-    tie.close (tie.spec put-below-requires content-requires end-line-requires same-length returns)
+put-below-spec = tie.close (tie.spec put-below-requires line-requires same-length returns)

@@ -1,8 +1,5 @@
-use mathlib.Core.Path.{_∙_}
-use Rattle.definition.specs.Base.{spaces}
-use Rattle.definition.specs.Pen.{space, put}
+use Rattle.definition.specs.Pen.{space}
 use Rattle.flow.specs.Ready.{after-drawn}
-use Rattle.scripts.specs.Keep.{flow-of, key-of}
 use Rattle.parts.specs.Draws.{of-puts}
 use Rattle.layout.proofs.Laws.{value-bare, value-below, value-inline}
 use borrow.Author.Needs.{needs}
@@ -54,8 +51,8 @@ spaces-requires : tie.Need-spaces-requires
 spaces-requires c κs = search needs
 
 -- src/lib.rt:117:5
-put-inlined-requires : tie.Need-put-inlined-requires
-put-inlined-requires c κs = let p = (c .before .before .before .before .before .before .before .before .before .before .before .before .before .pre) in let d = of-puts space _ (c .before .before .before .spaces .ensures) in let t = (c .before .before .before .before .before .before .before .before .before .before .before .before .before .args .settings) in (after-drawn (p .0) d, p .1, p .2, flow-of t (put space (spaces (c .before .before .before .before .at-least-one .result))) _ _ (d .drawn t) ∙ p .3, key-of t (put space (spaces (c .before .before .before .before .at-least-one .result))) _ _ (d .drawn t) ∙ p .4)
+line-requires : tie.Need-line-requires
+line-requires c κs = let p = c .before .before .before .before .before .before .before .before .before .before .before .before .before .pre in (after-drawn (p .0) (of-puts space _ (c .before .before .before .spaces .ensures)), p .1, p .2)
 
 -- src/lib.rt:92:1
 same-length-3 : tie.Need-same-length-3
@@ -63,7 +60,7 @@ same-length-3 c = search needs
 
 -- src/lib.rt:92:1
 returns-3 : tie.Need-returns-3
-returns-3 c = value-inline _ _ _ _ _ _ _ _ _ (c .before .before .before .before .before .before .before .before .before .before .before .before .bare .ensures) (c .before .before .before .before .before .before .before .before .before .before .before .if1 .left) (c .before .before .before .before .before .before .before .before .before .before .is-marked .ensures) (c .before .before .before .before .before .before .before .before .before .if2 .left) (c .before .before .before .before .before .before .before .at-least-one .ensures) (c .before .before .before .before .before .before .spaces .ensures) (c .before .before .put-inlined .ensures)
+returns-3 c = let p = c .before .before .before .before .before .before .before .before .before .before .before .before .before .before .before .before .pre in value-inline _ _ _ _ _ _ _ _ _ _ _ _ (p .3) (p .4) (c .before .before .before .before .before .before .before .before .before .before .before .before .bare .ensures) (c .before .before .before .before .before .before .before .before .before .before .before .if1 .left) (c .before .before .before .before .before .before .before .before .before .before .is-marked .ensures) (c .before .before .before .before .before .before .before .before .before .if2 .left) (c .before .before .before .before .before .before .before .at-least-one .ensures) (c .before .before .before .before .before .before .spaces .ensures) (c .before .before .line .ensures)
 
 pub put-value-spec : {M : Type 1} → statement M
 put-value-spec =
@@ -80,6 +77,6 @@ put-value-spec =
     returns-2
     at-least-one-requires
     spaces-requires
-    put-inlined-requires
+    line-requires
     same-length-3
     returns-3)

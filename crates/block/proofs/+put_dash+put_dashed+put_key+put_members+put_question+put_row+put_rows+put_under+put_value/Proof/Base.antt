@@ -40,7 +40,7 @@ use Rattle.choices.proofs.item_column.Reads as item-column-reads
 use Rattle.choices.proofs.on_dash_line.Reads as on-dash-line-reads
 use Rattle.choices.proofs.step_of.Reads as step-of-reads
 use Rattle.choices.proofs.value_column.Reads as value-column-reads
-use Rattle.flow.proofs.key.Reads as key-reads
+use Rattle.flow.proofs.line.Reads as line-reads
 use Rattle.layout.proofs.put_before.Reads as put-before-reads
 use Rattle.layout.proofs.put_include.Reads as put-include-reads
 use Rattle.layout.proofs.put_key_line.Reads as put-key-line-reads
@@ -186,8 +186,8 @@ put-key-claims t = (
   put-question.Post,
   with-colon-reads.Asked,
   with-colon-reads.Learnt,
-  key-reads.Asked,
-  key-reads.Learnt,
+  line-reads.Asked,
+  line-reads.Learnt,
 )
 
 abbrev pub put-members-claims : ℕ → put-members-lts.Claims

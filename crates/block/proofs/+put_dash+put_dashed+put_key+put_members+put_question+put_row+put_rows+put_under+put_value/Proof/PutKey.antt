@@ -7,7 +7,6 @@ use borrow.Author.Needs.{needs}
 use Prim.Native.Nat.{ℕ}
 use Rattle.block.proofs.put_key.Reads as put-key
 use Rattle.block.proofs.+put_dash+put_dashed+put_key+put_members+put_question+put_row+put_rows+put_under+put_value.Lts-put_key as put-key-lts
-use Rattle.block.proofs.put_question.Reads as put-question
 use Rattle.block.proofs.+put_dash+put_dashed+put_key+put_members+put_question+put_row+put_rows+put_under+put_value.Proof.Base.{put-key-at, put-key-claims}
 
 -- src/lib.rt:169:8
@@ -35,8 +34,8 @@ pub put-key-returns : (t : ℕ) → put-key-lts.Need-returns (put-key-claims t) 
 put-key-returns t c = key-explicit _ _ _ _ _ _ _ _ _ (c .before .before .before .before .before .before .before .before .before .before .before .before .before .is-explicit .ensures) (c .before .before .before .before .before .before .before .before .before .before .before .before .if1 .taken) (c .before .before .before .before .before .before .before .before .before .before .byte .ensures) (c .before .before .before .before .before .before .put-question .ensures) (c .before .before .with-colon .ensures)
 
 -- src/lib.rt:174:5
-pub put-key-key-requires : (t : ℕ) → put-key-lts.Need-key-requires (put-key-claims t) (put-key-at t) put-key.Post
-put-key-key-requires t c κs = let p = (c .before .before .before .before .before .before .pre) .1 in (p .0 .ready, p .1, p .2)
+pub put-key-line-requires : (t : ℕ) → put-key-lts.Need-line-requires (put-key-claims t) (put-key-at t) put-key.Post
+put-key-line-requires t c κs = let p = (c .before .before .before .before .before .before .pre) .1 in (p .0 .ready, p .1, p .2)
 
 -- src/lib.rt:153:1
 pub put-key-same-length-2 : (t : ℕ) → put-key-lts.Need-same-length-2 (put-key-claims t) (put-key-at t) put-key.Post
@@ -44,4 +43,4 @@ put-key-same-length-2 t c = search needs
 
 -- src/lib.rt:153:1
 pub put-key-returns-2 : (t : ℕ) → put-key-lts.Need-returns-2 (put-key-claims t) (put-key-at t) put-key.Post
-put-key-returns-2 t c = key-inline _ _ _ _ _ _ _ _ _ (c .before .before .before .before .before .is-explicit .ensures) (c .before .before .before .before .if1 .left) ((c .before .before .before .before .before .before .before .before .before .pre) .1 .0 .flow) (c .before .before .key .ensures)
+put-key-returns-2 t c = key-inline _ _ _ _ _ _ _ _ _ (c .before .before .before .before .before .is-explicit .ensures) (c .before .before .before .before .if1 .left) ((c .before .before .before .before .before .before .before .before .before .pre) .1 .0 .flow) (c .before .before .line .ensures)

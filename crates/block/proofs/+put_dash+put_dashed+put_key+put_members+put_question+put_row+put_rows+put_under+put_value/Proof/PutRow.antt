@@ -1,15 +1,13 @@
 use native.Mathlib.Omega.{arith}
 use Rattle.layout.specs.Calm.{calm-drawn, calm-after, calm-further}
-use Rattle.block.proofs.Laws.{at-cursor, pair-row, item-row}
+use Rattle.flow.specs.Ready.{at-cursor}
+use Rattle.block.proofs.Laws.{pair-row, item-row}
 use Rattle.spot.specs.Good.{spot-good, few-spot}
 use Rattle.block.specs.Rows.{keyPart}
 use borrow.Author.Needs.{needs}
 use Prim.Native.Nat.{ℕ}
-use Rattle.block.proofs.put_dash.Reads as put-dash
-use Rattle.block.proofs.put_key.Reads as put-key
 use Rattle.block.proofs.put_row.Reads as put-row
 use Rattle.block.proofs.+put_dash+put_dashed+put_key+put_members+put_question+put_row+put_rows+put_under+put_value.Lts-put_row as put-row-lts
-use Rattle.block.proofs.put_value.Reads as put-value
 use Rattle.block.proofs.+put_dash+put_dashed+put_key+put_members+put_question+put_row+put_rows+put_under+put_value.Proof.Base.{put-row-at, put-row-claims}
 
 -- src/lib.rt:142:9

@@ -5,37 +5,37 @@ use borrow.Fn.Kinds.{In}
 use borrow.Fn.PlainCycle.{Measures, is, falls, and}
 use Rattle.flow.proofs.content.Reads as content
 use Rattle.flow.proofs.content.Kinds as content-kinds
-use Rattle.flow.proofs.+content+entry_key+flow_entries+flow_entry+group+item+key+lined_entries+lined_entry+lined_group+plain_group.Lts-content as content-lts
+use Rattle.flow.proofs.+content+entry_key+flow_entries+flow_entry+group+item+line+lined_entries+lined_entry+lined_group+plain_group.Lts-content as content-lts
 use Rattle.flow.proofs.entry_key.Reads as entry-key
 use Rattle.flow.proofs.entry_key.Kinds as entry-key-kinds
-use Rattle.flow.proofs.+content+entry_key+flow_entries+flow_entry+group+item+key+lined_entries+lined_entry+lined_group+plain_group.Lts-entry_key as entry-key-lts
+use Rattle.flow.proofs.+content+entry_key+flow_entries+flow_entry+group+item+line+lined_entries+lined_entry+lined_group+plain_group.Lts-entry_key as entry-key-lts
 use Rattle.flow.proofs.flow_entries.Reads as flow-entries
 use Rattle.flow.proofs.flow_entries.Kinds as flow-entries-kinds
-use Rattle.flow.proofs.+content+entry_key+flow_entries+flow_entry+group+item+key+lined_entries+lined_entry+lined_group+plain_group.Lts-flow_entries as flow-entries-lts
+use Rattle.flow.proofs.+content+entry_key+flow_entries+flow_entry+group+item+line+lined_entries+lined_entry+lined_group+plain_group.Lts-flow_entries as flow-entries-lts
 use Rattle.flow.proofs.flow_entry.Reads as flow-entry
 use Rattle.flow.proofs.flow_entry.Kinds as flow-entry-kinds
-use Rattle.flow.proofs.+content+entry_key+flow_entries+flow_entry+group+item+key+lined_entries+lined_entry+lined_group+plain_group.Lts-flow_entry as flow-entry-lts
+use Rattle.flow.proofs.+content+entry_key+flow_entries+flow_entry+group+item+line+lined_entries+lined_entry+lined_group+plain_group.Lts-flow_entry as flow-entry-lts
 use Rattle.flow.proofs.group.Reads as group
 use Rattle.flow.proofs.group.Kinds as group-kinds
-use Rattle.flow.proofs.+content+entry_key+flow_entries+flow_entry+group+item+key+lined_entries+lined_entry+lined_group+plain_group.Lts-group as group-lts
+use Rattle.flow.proofs.+content+entry_key+flow_entries+flow_entry+group+item+line+lined_entries+lined_entry+lined_group+plain_group.Lts-group as group-lts
 use Rattle.flow.proofs.item.Reads as item
 use Rattle.flow.proofs.item.Kinds as item-kinds
-use Rattle.flow.proofs.+content+entry_key+flow_entries+flow_entry+group+item+key+lined_entries+lined_entry+lined_group+plain_group.Lts-item as item-lts
-use Rattle.flow.proofs.key.Reads as key
-use Rattle.flow.proofs.key.Kinds as key-kinds
-use Rattle.flow.proofs.+content+entry_key+flow_entries+flow_entry+group+item+key+lined_entries+lined_entry+lined_group+plain_group.Lts-key as key-lts
+use Rattle.flow.proofs.+content+entry_key+flow_entries+flow_entry+group+item+line+lined_entries+lined_entry+lined_group+plain_group.Lts-item as item-lts
+use Rattle.flow.proofs.line.Reads as line
+use Rattle.flow.proofs.line.Kinds as line-kinds
+use Rattle.flow.proofs.+content+entry_key+flow_entries+flow_entry+group+item+line+lined_entries+lined_entry+lined_group+plain_group.Lts-line as line-lts
 use Rattle.flow.proofs.lined_entries.Reads as lined-entries
 use Rattle.flow.proofs.lined_entries.Kinds as lined-entries-kinds
-use Rattle.flow.proofs.+content+entry_key+flow_entries+flow_entry+group+item+key+lined_entries+lined_entry+lined_group+plain_group.Lts-lined_entries as lined-entries-lts
+use Rattle.flow.proofs.+content+entry_key+flow_entries+flow_entry+group+item+line+lined_entries+lined_entry+lined_group+plain_group.Lts-lined_entries as lined-entries-lts
 use Rattle.flow.proofs.lined_entry.Reads as lined-entry
 use Rattle.flow.proofs.lined_entry.Kinds as lined-entry-kinds
-use Rattle.flow.proofs.+content+entry_key+flow_entries+flow_entry+group+item+key+lined_entries+lined_entry+lined_group+plain_group.Lts-lined_entry as lined-entry-lts
+use Rattle.flow.proofs.+content+entry_key+flow_entries+flow_entry+group+item+line+lined_entries+lined_entry+lined_group+plain_group.Lts-lined_entry as lined-entry-lts
 use Rattle.flow.proofs.lined_group.Reads as lined-group
 use Rattle.flow.proofs.lined_group.Kinds as lined-group-kinds
-use Rattle.flow.proofs.+content+entry_key+flow_entries+flow_entry+group+item+key+lined_entries+lined_entry+lined_group+plain_group.Lts-lined_group as lined-group-lts
+use Rattle.flow.proofs.+content+entry_key+flow_entries+flow_entry+group+item+line+lined_entries+lined_entry+lined_group+plain_group.Lts-lined_group as lined-group-lts
 use Rattle.flow.proofs.plain_group.Reads as plain-group
 use Rattle.flow.proofs.plain_group.Kinds as plain-group-kinds
-use Rattle.flow.proofs.+content+entry_key+flow_entries+flow_entry+group+item+key+lined_entries+lined_entry+lined_group+plain_group.Lts-plain_group as plain-group-lts
+use Rattle.flow.proofs.+content+entry_key+flow_entries+flow_entry+group+item+line+lined_entries+lined_entry+lined_group+plain_group.Lts-plain_group as plain-group-lts
 use Rattle.atoms.proofs.put_alias.Reads as put-alias-reads
 use Rattle.atoms.proofs.put_null.Reads as put-null-reads
 use Rattle.atoms.proofs.put_words.Reads as put-words-reads
@@ -43,16 +43,17 @@ use Rattle.choices.proofs.step_of.Reads as step-of-reads
 use Rattle.flow.proofs.back.Reads as back-reads
 use Rattle.flow.proofs.commented.Reads as commented-reads
 use Rattle.joints.proofs.closing_of.Reads as closing-of-reads
+use Rattle.joints.proofs.key_in.Reads as key-in-reads
 use Rattle.joints.proofs.last_of.Reads as last-of-reads
 use Rattle.joints.proofs.opening_of.Reads as opening-of-reads
 use Rattle.joints.proofs.put_between.Reads as put-between-reads
-use Rattle.joints.proofs.put_colon.Reads as put-colon-reads
+use Rattle.joints.proofs.put_dress.Reads as put-dress-reads
+use Rattle.joints.proofs.put_ending.Reads as put-ending-reads
 use Rattle.joints.proofs.put_lined_after.Reads as put-lined-after-reads
 use Rattle.joints.proofs.put_lined_before.Reads as put-lined-before-reads
 use Rattle.joints.proofs.with_flow.Reads as with-flow-reads
 use Rattle.joints.proofs.with_key.Reads as with-key-reads
 use Rattle.parts.proofs.is_marked.Reads as is-marked-reads
-use Rattle.parts.proofs.put_props.Reads as put-props-reads
 use Rattle.pen.proofs.Writer.byte.Reads as byte-reads
 use Rattle.pen.proofs.Writer.spaces.Reads as spaces-reads
 use Rattle.spot.proofs.spot_at.Reads as spot-at-reads
@@ -75,8 +76,8 @@ abbrev pub μ-group : Measures 3 group-kinds.ps ℕ
 abbrev pub μ-item : Measures 3 item-kinds.ps ℕ
 μ-item κs a = 16 * (length (a .1 .0 .now) - a .1 .1 .1 .1 .1 .0 .at) + 8
 
-abbrev pub μ-key : Measures 3 key-kinds.ps ℕ
-μ-key κs a = 16 * (length (a .1 .0 .now) - a .1 .1 .1 .1 .1 .0 .place) + 8
+abbrev pub μ-line : Measures 3 line-kinds.ps ℕ
+μ-line κs a = 16 * (length (a .1 .0 .now) - a .1 .1 .1 .1 .1 .0 .place) + 6
 
 abbrev pub μ-lined-entries : Measures 3 lined-entries-kinds.ps ℕ
 μ-lined-entries κs a = 16 * (length (a .1 .0 .now) - a .1 .1 .1 .1 .1 .1 .1 .0 .at) + 12
@@ -135,11 +136,11 @@ item-at t = and 3 item-kinds.ps (is 3 item-kinds.ps μ-item t) item.Pre
 abbrev pub item-below : ℕ → In 3 item-kinds.ps
 item-below t = and 3 item-kinds.ps (falls 3 item-kinds.ps _<_ μ-item t) item.Pre
 
-abbrev pub key-at : ℕ → In 3 key-kinds.ps
-key-at t = and 3 key-kinds.ps (is 3 key-kinds.ps μ-key t) key.Pre
+abbrev pub line-at : ℕ → In 3 line-kinds.ps
+line-at t = and 3 line-kinds.ps (is 3 line-kinds.ps μ-line t) line.Pre
 
-abbrev pub key-below : ℕ → In 3 key-kinds.ps
-key-below t = and 3 key-kinds.ps (falls 3 key-kinds.ps _<_ μ-key t) key.Pre
+abbrev pub line-below : ℕ → In 3 line-kinds.ps
+line-below t = and 3 line-kinds.ps (falls 3 line-kinds.ps _<_ μ-line t) line.Pre
 
 abbrev pub lined-entries-at : ℕ → In 3 lined-entries-kinds.ps
 lined-entries-at t =
@@ -199,8 +200,8 @@ abbrev pub entry-key-claims : ℕ → entry-key-lts.Claims
 entry-key-claims t = (
   spot-at-reads.Asked,
   spot-at-reads.Learnt,
-  key-below t,
-  key.Post,
+  line-below t,
+  line.Post,
   byte-reads.Asked,
   byte-reads.Learnt,
 )
@@ -237,22 +238,22 @@ abbrev pub item-claims : ℕ → item-lts.Claims
 item-claims t = (
   spot-at-reads.Asked,
   spot-at-reads.Learnt,
-  put-props-reads.Asked,
-  put-props-reads.Learnt,
-  content-below t,
-  content.Post,
+  line-below t,
+  line.Post,
 )
 
-abbrev pub key-claims : ℕ → key-lts.Claims
-key-claims t = (
-  put-props-reads.Asked,
-  put-props-reads.Learnt,
+abbrev pub line-claims : ℕ → line-lts.Claims
+line-claims t = (
+  put-dress-reads.Asked,
+  put-dress-reads.Learnt,
+  key-in-reads.Asked,
+  key-in-reads.Learnt,
   with-key-reads.Asked,
   with-key-reads.Learnt,
   content-below t,
   content.Post,
-  put-colon-reads.Asked,
-  put-colon-reads.Learnt,
+  put-ending-reads.Asked,
+  put-ending-reads.Learnt,
 )
 
 abbrev pub lined-entries-claims : ℕ → lined-entries-lts.Claims

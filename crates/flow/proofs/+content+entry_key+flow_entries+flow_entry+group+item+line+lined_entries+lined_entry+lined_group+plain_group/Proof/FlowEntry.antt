@@ -3,11 +3,9 @@ use Rattle.flow.specs.Ready.{after, further}
 use Rattle.flow.proofs.Laws.{entry-emits}
 use borrow.Author.Needs.{needs}
 use Prim.Native.Nat.{ℕ}
-use Rattle.flow.proofs.entry_key.Reads as entry-key
 use Rattle.flow.proofs.flow_entry.Reads as flow-entry
-use Rattle.flow.proofs.+content+entry_key+flow_entries+flow_entry+group+item+key+lined_entries+lined_entry+lined_group+plain_group.Lts-flow_entry as flow-entry-lts
-use Rattle.flow.proofs.item.Reads as item
-use Rattle.flow.proofs.+content+entry_key+flow_entries+flow_entry+group+item+key+lined_entries+lined_entry+lined_group+plain_group.Proof.Base.{flow-entry-at, flow-entry-claims}
+use Rattle.flow.proofs.+content+entry_key+flow_entries+flow_entry+group+item+line+lined_entries+lined_entry+lined_group+plain_group.Lts-flow_entry as flow-entry-lts
+use Rattle.flow.proofs.+content+entry_key+flow_entries+flow_entry+group+item+line+lined_entries+lined_entry+lined_group+plain_group.Proof.Base.{flow-entry-at, flow-entry-claims}
 
 -- src/lib.rt:292:9
 pub flow-entry-entry-key-requires : (t : ℕ) → flow-entry-lts.Need-entry-key-requires (flow-entry-claims t) (flow-entry-at t) flow-entry.Post
