@@ -5,7 +5,7 @@ use Prim.Native.Nat.{ℕ, zero, suc, _-_, _<_, _≤_}
 use native.Mathlib.Omega.{arith}
 use mathlib.Core.Bool.{Bool, true, false, not, _&&_, true≢false}
 use mathlib.Core.List.{[], _∷_}
-use lib.ListN.{length}
+use lib.ListN.{length, getD}
 use borrow.Author.Tests.{le-leb, lt-leb}
 use Rattle.definition.specs.Base.{Bytes}
 use Rattle.definition.specs.Settings.{stepOf}
@@ -29,12 +29,12 @@ use Rattle.spot.specs.declared.Body.{Body}
 use Rattle.spot.specs.declared.Body.the-variants as body
 use Rattle.spot.specs.declared.Spot.{Spot}
 use Rattle.spot.specs.Spot.{endOf, keptIn, broughtIn, kindIn, endIn, nodeIn, spotAt, tree-value, tree-end}
-use Rattle.spot.specs.Good.{Good, spot-good}
+use Rattle.spot.specs.Good.{Good, countIn, spot-good, few-spot}
 use Rattle.atoms.specs.Atoms.{on}
 use Rattle.choices.specs.Choices.{blockIn, noneIn, includedIn, rootColumnIn, bareRootIn, block-is, included-is, root-column-is, bare-root-is}
 use Rattle.joints.specs.Entries.{nodeAt, nextAt}
 use Rattle.flow.specs.Ready.{Emits}
-use Rattle.layout.specs.Calm.{Calm}
+use Rattle.layout.specs.Calm.{Calm, calm-further}
 use Rattle.document.specs.Root.{calm-emits}
 use Rattle.document.specs.Pieces.{bomIn, startIn, stopIn, opened, separationIn, firstOf, laterOf, blockRoot, lineRoot, rootOf, bom-is, separation-is}
 
@@ -140,23 +140,33 @@ module _ (s : Settings) (deck pool : Bytes) where
         within = m .within;
       }
 
+  -- what a root's content asks for
+  pub root-asks :
+      (c : Cursor) (x : Spot) {P : Pen} → Calm s deck pool P (c .at) 0 → ((k : ℕ) → getD deck k 0 < 256) → x ≡ spotAt deck c
+      → Calm s deck pool P (x .place) 0 × Good deck x × (countIn (x .body) < 65536)
+  root-asks c x b h e =
+      let k = b .ready .here in
+      let g = spot-good deck c x k (b .ready .deck-small) e in
+      (calm-further b (x .place) (g .1) (g .2), g .0, few-spot deck h c x k e)
+
   pub root-directed :
-      (passed : Bool) (c r : Cursor) (x : Spot) {P Q : Pen} → (includedIn (x .lead .origin) && not passed) ≡ true
+      (passed : Bool) (c r : Cursor) (x : Spot) {P Q : Pen} → x ≡ spotAt deck c → (includedIn (x .lead .origin) && not passed) ≡ true
       → Draws (directed (x .place) (originOf deck pool (x .lead .origin)) (remarkOf deck pool (x .lead .remark))) P Q → Ends deck c r
-      → Emits s (rootOf s deck pool passed x) P Q (c .at) (nextAt deck pool c) r (length deck)
+      → Emits s (rootOf s deck pool passed (spotAt deck c)) P Q (c .at) (nextAt deck pool c) r (length deck)
   unfolding rootOf includeLine directed keptOf
-  root-directed passed c r x t d e = record { drawn = rw t (d .drawn s); next = e .tree pool; onward = e .onward; within = e .within }
+  root-directed passed c r x e t d n = record { drawn = rw (← e, t) (d .drawn s); next = n .tree pool; onward = n .onward; within = n .within }
 
   pub root-body :
-      (passed : Bool) (c r : Cursor) (x : Spot) {P Q : Pen} → c .at ≤ length deck → length deck ≤ 65536 → x ≡ spotAt deck c
+      (passed : Bool) (c r : Cursor) (x : Spot) {P Q : Pen} → Calm s deck pool P (c .at) 0 → x ≡ spotAt deck c
       → (includedIn (x .lead .origin) && not passed) ≡ false → Emits s (bodyIn x) P Q (x .place) (endIn deck pool x) r (length deck)
-      → Emits s (rootOf s deck pool passed x) P Q (c .at) (nextAt deck pool c) r (length deck)
+      → Emits s (rootOf s deck pool passed (spotAt deck c)) P Q (c .at) (nextAt deck pool c) r (length deck)
   unfolding rootOf
-  root-body passed c r x k b e t m =
-      let g = spot-good deck c x k b e in
+  root-body passed c r x b e t m =
+      let k = b .ready .here in
+      let g = spot-good deck c x k (b .ready .deck-small) e in
       let o = m .onward in
       record {
-        drawn = rw t (m .drawn);
+        drawn = rw (← e, t) (m .drawn);
         next = m .next ∙ rw (tree-end deck pool c k, ← e);
         onward = omega (arith, o, g .1);
         within = m .within;
@@ -177,13 +187,13 @@ module _ (s : Settings) (deck pool : Bytes) where
   pub document-whole :
       (passed : Bool) (c r : Cursor) (x : Spot) {P₀ P₁ P₂ P₃ : Pen} → c .at ≤ length deck → x ≡ spotAt deck c
       → Draws (opened deck pool (x .lead)) P₀ P₁
-      → Emits s (rootOf s deck pool passed x) P₁ P₂ (c .at) (nextAt deck pool c) r (length deck)
+      → Emits s (rootOf s deck pool passed (spotAt deck c)) P₁ P₂ (c .at) (nextAt deck pool c) r (length deck)
       → Draws (foots (keptIn deck pool x) 0) P₂ P₃
       → Emits s (document s passed (nodeAt deck pool c)) P₀ P₃ (c .at) (nextAt deck pool c) r (length deck)
   unfolding ink opened
   document-whole passed c r x k e d m z =
       record {
-        drawn = rw (node-is c x k e, document-is passed x) (z .drawn s ∙ ap (ink s (foots (keptIn deck pool x) 0)) (m .drawn ∙ ap (ink s (rootOf s deck pool passed x)) (d .drawn s)));
+        drawn = rw (node-is c x k e, document-is passed x) (z .drawn s ∙ ap (ink s (foots (keptIn deck pool x) 0)) (rw (← e) at (m .drawn) ∙ ap (ink s (rootOf s deck pool passed x)) (d .drawn s)));
         next = m .next;
         onward = m .onward;
         within = m .within;
