@@ -6,20 +6,23 @@ use native.Mathlib.Omega.{arith}
 use mathlib.Core.Bool.{Bool, true, false, not, _&&_, true≢false}
 use mathlib.Core.List.{[], _∷_}
 use lib.ListN.{length, getD}
-use borrow.Author.Tests.{le-leb, lt-leb}
+use lib.Dec.{eqb}
+use borrow.Author.Tests.{eqb-true, le-leb, lt-leb, not-true}
 use Rattle.definition.specs.Base.{Bytes}
 use Rattle.definition.specs.Settings.{stepOf}
-use Rattle.definition.specs.Deck.{layoutOf}
+use Rattle.definition.specs.Deck.{marked, layoutOf}
 use Rattle.definition.specs.Tree.{Node, kept}
 use Rattle.definition.specs.Pen.{Script, _>>_, nothing}
-use Rattle.definition.specs.Walk.{heads, foots, props, propsLine, includeLine, inlined, content, contentOf, members}
+use Rattle.definition.specs.Walk.{commentLines, headsThat, heads, foots, props, propsLine, includeLine, inlined, content, contentOf, members}
 use Rattle.definition.specs.Document.{directives, body, bom, document, oneDocument, separation, laterDocuments, allDocuments}
 use Rattle.definition.specs.declared.Cursor.{Cursor}
 use Rattle.definition.specs.declared.Lines.{Lines}
 use Rattle.definition.specs.declared.Settings.{Settings}
+use Rattle.laws.specs.Tests.{both-left, both-right}
 use Rattle.node.specs.declared.Held.{Held}
+use Rattle.node.specs.declared.Lead.{Lead}
 use Rattle.node.specs.declared.Remark.{Remark}
-use Rattle.node.specs.Total.{keptOf, originOf, remarkOf, treesFrom, treesOf}
+use Rattle.node.specs.Total.{runFrom, keptOf, originOf, remarkOf, treesFrom, treesOf}
 use Rattle.node.specs.Ends.{Ends}
 use Rattle.pen.specs.Pen.{Pen, puts, ink}
 use Rattle.scripts.specs.Keep.{flow-of, key-of, length-of}
@@ -36,11 +39,23 @@ use Rattle.joints.specs.Entries.{nodeAt, nextAt}
 use Rattle.flow.specs.Ready.{Emits}
 use Rattle.layout.specs.Calm.{Calm, calm-further}
 use Rattle.document.specs.Root.{calm-emits}
-use Rattle.document.specs.Pieces.{bomIn, startIn, stopIn, opened, separationIn, firstOf, laterOf, blockRoot, lineRoot, rootOf, bom-is, separation-is}
+use Rattle.document.specs.Pieces.{bomIn, startIn, stopIn, plainIn, opened, separationIn, firstOf, laterOf, blockRoot, lineRoot, rootOf, bom-is, separation-is}
 
 on-zero : (n : ℕ) → n ≡ 0 → on n ≡ false
 unfolding on
 on-zero n e = rw e
+
+-- nothing stands before the root
+pub plain-opened : (deck pool : Bytes) (l : Lead) {P : Pen} → plainIn l ≡ true → Draws (opened deck pool l) P P
+unfolding ink puts nothing plainIn opened keptOf runFrom directives startIn heads headsThat commentLines
+plain-opened deck pool l t =
+    let n = l .directives .count in
+    let k = l .heads .count in
+    let m = marked (l .lines .marks) 32 in
+    let u = both-left (eqb n 0 && eqb k 0) (not m) t in
+    let d = eqb-true n 0 (both-left (eqb n 0) _ u) in
+    let h = eqb-true k 0 (both-right (eqb n 0) _ u) in
+    record { drawn = λ s. rw (d, h, not-true m (both-right (eqb n 0 && eqb k 0) _ t)) }
 
 module _ (s : Settings) where
   -- something drawn before

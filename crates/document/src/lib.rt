@@ -23,7 +23,7 @@ ghost use Rattle.choices.specs.Choices.{includedIn};
 ghost use Rattle.joints.specs.Entries.{nodeAt, nextAt};
 ghost use Rattle.flow.specs.Ready.{Emits};
 ghost use Rattle.layout.specs.Calm.{Calm};
-ghost use Rattle.document.specs.Pieces.{bomIn, startIn, stopIn, opened, separationIn, firstOf, laterOf, blockRoot, lineRoot, rootOf};
+ghost use Rattle.document.specs.Pieces.{bomIn, startIn, stopIn, plainIn, opened, separationIn, firstOf, laterOf, blockRoot, lineRoot, rootOf};
 
 fn put_dashes(w: Writer, out: &mut [u8]) -> Writer
     requires { ⌜ length (now out) < 2 ^ 62 ⌝ }
@@ -88,11 +88,27 @@ fn put_separation(w: Writer, out: &mut [u8], lead: Lead) -> Writer
     put_dashes(w, out)
 }
 
-// What stands before a document's root.
+// Nothing stands before the root.
+fn is_plain(lead: Lead) -> bool
+    ensures { λ r. ⌜ r ≡ plainIn lead ⌝ }
+{
+    if lead.directives.count != 0 {
+        return false;
+    }
+    if lead.heads.count != 0 {
+        return false;
+    }
+    !parts::is_marked(lead.lines.marks, 32)
+}
+
+// What stands before a document's root: one test first, so that where nothing does, no writer is copied.
 fn put_opening(w: Writer, deck: &[u8], pool: &[u8], out: &mut [u8], lead: Lead) -> Writer
     requires { ⌜ (length (now out) < 2 ^ 62) × Short lead ⌝ }
     ensures { λ r. ⌜ Draws (opened (now (deck .entry)) (now (pool .entry)) lead) (pen w (now (out .entry))) (pen r (now (out .exit))) ⌝ }
 {
+    if is_plain(lead) {
+        return w;
+    }
     let w1 = parts::put_repeated(w, deck, pool, out, lead, Entries::Directives, 0);
     let w2 = put_start(w1, out, lead.lines.marks);
     parts::put_repeated(w2, deck, pool, out, lead, Entries::Heads, 0)
