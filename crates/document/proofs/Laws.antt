@@ -5,21 +5,24 @@ use Prim.Native.Nat.{ℕ, zero, suc, _-_, _<_, _≤_}
 use native.Mathlib.Omega.{arith}
 use mathlib.Core.Bool.{Bool, true, false, not, _&&_, true≢false}
 use mathlib.Core.List.{[], _∷_}
-use lib.ListN.{length}
-use borrow.Author.Tests.{le-leb, lt-leb}
+use lib.ListN.{length, getD}
+use lib.Dec.{eqb}
+use borrow.Author.Tests.{eqb-true, le-leb, lt-leb, not-true}
 use Rattle.definition.specs.Base.{Bytes}
 use Rattle.definition.specs.Settings.{stepOf}
-use Rattle.definition.specs.Deck.{layoutOf}
+use Rattle.definition.specs.Deck.{marked, layoutOf}
 use Rattle.definition.specs.Tree.{Node, kept}
 use Rattle.definition.specs.Pen.{Script, _>>_, nothing}
-use Rattle.definition.specs.Walk.{heads, foots, propsLine, includeLine, content, members}
+use Rattle.definition.specs.Walk.{commentLines, headsThat, heads, foots, propsLine, includeLine, content, members}
 use Rattle.definition.specs.Document.{directives, body, bom, document, oneDocument, separation, laterDocuments, allDocuments}
 use Rattle.definition.specs.declared.Cursor.{Cursor}
 use Rattle.definition.specs.declared.Lines.{Lines}
 use Rattle.definition.specs.declared.Settings.{Settings}
+use Rattle.laws.specs.Tests.{both-left, both-right}
 use Rattle.node.specs.declared.Held.{Held}
+use Rattle.node.specs.declared.Lead.{Lead}
 use Rattle.node.specs.declared.Remark.{Remark}
-use Rattle.node.specs.Total.{keptOf, originOf, remarkOf, treesFrom, treesOf}
+use Rattle.node.specs.Total.{runFrom, keptOf, originOf, remarkOf, treesFrom, treesOf}
 use Rattle.node.specs.Ends.{Ends}
 use Rattle.pen.specs.Pen.{Pen, puts, ink}
 use Rattle.scripts.specs.Keep.{length-of}
@@ -29,17 +32,29 @@ use Rattle.spot.specs.declared.Body.{Body}
 use Rattle.spot.specs.declared.Body.the-variants as body
 use Rattle.spot.specs.declared.Spot.{Spot}
 use Rattle.spot.specs.Spot.{endOf, keptIn, broughtIn, kindIn, endIn, nodeIn, spotAt, tree-value, tree-end}
-use Rattle.spot.specs.Good.{Good, spot-good}
+use Rattle.spot.specs.Good.{Good, countIn, spot-good, few-spot}
 use Rattle.atoms.specs.Atoms.{on}
 use Rattle.choices.specs.Choices.{blockIn, noneIn, includedIn, rootColumnIn, bareRootIn, block-is, included-is, root-column-is, bare-root-is}
 use Rattle.joints.specs.declared.Manner.the-variants.{Value}
 use Rattle.joints.specs.Line.{lineOf}
 use Rattle.joints.specs.Entries.{nodeAt, nextAt}
 use Rattle.flow.specs.Ready.{Emits}
-use Rattle.layout.specs.Calm.{Calm}
+use Rattle.layout.specs.Calm.{Calm, calm-further}
 use Rattle.layout.specs.Emitting.{calm-line, line-value}
 use Rattle.document.specs.Root.{calm-emits}
-use Rattle.document.specs.Pieces.{bomIn, startIn, stopIn, opened, separationIn, firstOf, laterOf, blockRoot, lineRoot, rootOf, bom-is, separation-is}
+use Rattle.document.specs.Pieces.{bomIn, startIn, stopIn, plainIn, opened, separationIn, firstOf, laterOf, blockRoot, lineRoot, rootOf, bom-is, separation-is}
+
+-- nothing stands before the root
+pub plain-opened : (deck pool : Bytes) (l : Lead) {P : Pen} → plainIn l ≡ true → Draws (opened deck pool l) P P
+unfolding ink puts nothing plainIn opened keptOf runFrom directives startIn heads headsThat commentLines
+plain-opened deck pool l t =
+    let n = l .directives .count in
+    let k = l .heads .count in
+    let m = marked (l .lines .marks) 32 in
+    let u = both-left (eqb n 0 && eqb k 0) (not m) t in
+    let d = eqb-true n 0 (both-left (eqb n 0) _ u) in
+    let h = eqb-true k 0 (both-right (eqb n 0) _ u) in
+    record { drawn = λ s. rw (d, h, not-true m (both-right (eqb n 0 && eqb k 0) _ t)) }
 
 module _ (s : Settings) where
   -- something drawn before
@@ -127,23 +142,33 @@ module _ (s : Settings) (deck pool : Bytes) where
         within = m .within;
       }
 
+  -- what a root's content asks for
+  pub root-asks :
+      (c : Cursor) (x : Spot) {P : Pen} → Calm s deck pool P (c .at) 0 → ((k : ℕ) → getD deck k 0 < 256) → x ≡ spotAt deck c
+      → Calm s deck pool P (x .place) 0 × Good deck x × (countIn (x .body) < 65536)
+  root-asks c x b h e =
+      let k = b .ready .here in
+      let g = spot-good deck c x k (b .ready .deck-small) e in
+      (calm-further b (x .place) (g .1) (g .2), g .0, few-spot deck h c x k e)
+
   pub root-directed :
-      (passed : Bool) (c r : Cursor) (x : Spot) {P Q : Pen} → (includedIn (x .lead .origin) && not passed) ≡ true
+      (passed : Bool) (c r : Cursor) (x : Spot) {P Q : Pen} → x ≡ spotAt deck c → (includedIn (x .lead .origin) && not passed) ≡ true
       → Draws (directed (x .place) (originOf deck pool (x .lead .origin)) (remarkOf deck pool (x .lead .remark))) P Q → Ends deck c r
-      → Emits s (rootOf s deck pool passed x) P Q (c .at) (nextAt deck pool c) r (length deck)
+      → Emits s (rootOf s deck pool passed (spotAt deck c)) P Q (c .at) (nextAt deck pool c) r (length deck)
   unfolding rootOf includeLine directed keptOf
-  root-directed passed c r x t d e = record { drawn = rw t (d .drawn s); next = e .tree pool; onward = e .onward; within = e .within }
+  root-directed passed c r x e t d n = record { drawn = rw (← e, t) (d .drawn s); next = n .tree pool; onward = n .onward; within = n .within }
 
   pub root-body :
-      (passed : Bool) (c r : Cursor) (x : Spot) {P Q : Pen} → c .at ≤ length deck → length deck ≤ 65536 → x ≡ spotAt deck c
+      (passed : Bool) (c r : Cursor) (x : Spot) {P Q : Pen} → Calm s deck pool P (c .at) 0 → x ≡ spotAt deck c
       → (includedIn (x .lead .origin) && not passed) ≡ false → Emits s (bodyIn x) P Q (x .place) (endIn deck pool x) r (length deck)
-      → Emits s (rootOf s deck pool passed x) P Q (c .at) (nextAt deck pool c) r (length deck)
+      → Emits s (rootOf s deck pool passed (spotAt deck c)) P Q (c .at) (nextAt deck pool c) r (length deck)
   unfolding rootOf
-  root-body passed c r x k b e t m =
-      let g = spot-good deck c x k b e in
+  root-body passed c r x b e t m =
+      let k = b .ready .here in
+      let g = spot-good deck c x k (b .ready .deck-small) e in
       let o = m .onward in
       record {
-        drawn = rw t (m .drawn);
+        drawn = rw (← e, t) (m .drawn);
         next = m .next ∙ rw (tree-end deck pool c k, ← e);
         onward = omega (arith, o, g .1);
         within = m .within;
@@ -164,13 +189,13 @@ module _ (s : Settings) (deck pool : Bytes) where
   pub document-whole :
       (passed : Bool) (c r : Cursor) (x : Spot) {P₀ P₁ P₂ P₃ : Pen} → c .at ≤ length deck → x ≡ spotAt deck c
       → Draws (opened deck pool (x .lead)) P₀ P₁
-      → Emits s (rootOf s deck pool passed x) P₁ P₂ (c .at) (nextAt deck pool c) r (length deck)
+      → Emits s (rootOf s deck pool passed (spotAt deck c)) P₁ P₂ (c .at) (nextAt deck pool c) r (length deck)
       → Draws (foots (keptIn deck pool x) 0) P₂ P₃
       → Emits s (document s passed (nodeAt deck pool c)) P₀ P₃ (c .at) (nextAt deck pool c) r (length deck)
   unfolding ink opened
   document-whole passed c r x k e d m z =
       record {
-        drawn = rw (node-is c x k e, document-is passed x) (z .drawn s ∙ ap (ink s (foots (keptIn deck pool x) 0)) (m .drawn ∙ ap (ink s (rootOf s deck pool passed x)) (d .drawn s)));
+        drawn = rw (node-is c x k e, document-is passed x) (z .drawn s ∙ ap (ink s (foots (keptIn deck pool x) 0)) (rw (← e) at (m .drawn) ∙ ap (ink s (rootOf s deck pool passed x)) (d .drawn s)));
         next = m .next;
         onward = m .onward;
         within = m .within;

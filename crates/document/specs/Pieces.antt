@@ -4,6 +4,7 @@ use Prim.Native.Nat.{ℕ, zero, suc}
 use native.Mathlib.Omega.{arith}
 use mathlib.Core.Bool.{Bool, true, false, not, _&&_}
 use mathlib.Core.List.{[], _∷_}
+use lib.Dec.{eqb}
 use borrow.Author.Tests.{ne-eqb}
 use Rattle.definition.specs.Base.{Bytes, if_then_else_, isNil}
 use Rattle.definition.specs.Settings.{stepOf}
@@ -36,6 +37,10 @@ stopIn s = if s .«explicit_end» then dots else nothing
 -- what stands before a document's root: directives, `---`, head comments
 unfoldable pub opened : Bytes → Bytes → Lead → Script
 opened deck pool l = directives (keptOf deck pool l .directives) >> startIn (l .lines .marks) >> heads (keptOf deck pool l) 0
+
+-- nothing stands there
+unfoldable pub plainIn : Lead → Bool
+plainIn l = eqb (l .directives .count) 0 && eqb (l .heads .count) 0 && not (marked (l .lines .marks) 32)
 
 -- what separates a document from the one before it
 unfoldable pub separationIn : Lead → Script

@@ -12,19 +12,19 @@ ghost use mathlib.Core.Path.{_≡_};
 ghost use Prim.Native.Nat.{_<_, _^_};
 ghost use mathlib.Core.Bool.{not, _&&_};
 ghost use lib.ListN.{length};
-ghost use Rattle.definition.specs.Document.{dashes, dots, body, document, oneDocument, allDocuments, laterDocuments};
+ghost use Rattle.definition.specs.Document.{dashes, dots, document, oneDocument, allDocuments, laterDocuments};
 ghost use Rattle.node.specs.Total.{treesFrom, treesOf};
 ghost use Rattle.pen.specs.Pen.{pen, ink, ended};
 ghost use Rattle.pen.specs.Shown.{fresh};
 ghost use Rattle.parts.specs.Draws.{Draws};
 ghost use Rattle.parts.specs.Runs.{Short};
-ghost use Rattle.spot.specs.Spot.{endIn, nodeIn, spotAt};
+ghost use Rattle.spot.specs.Spot.{endIn, spotAt};
 ghost use Rattle.spot.specs.Good.{Good, countIn};
 ghost use Rattle.choices.specs.Choices.{includedIn};
 ghost use Rattle.joints.specs.Entries.{nodeAt, nextAt};
 ghost use Rattle.flow.specs.Ready.{Emits};
 ghost use Rattle.layout.specs.Calm.{Calm};
-ghost use Rattle.document.specs.Pieces.{bomIn, startIn, stopIn, opened, separationIn, firstOf, laterOf, blockRoot, lineRoot, rootOf};
+ghost use Rattle.document.specs.Pieces.{bomIn, startIn, stopIn, plainIn, opened, separationIn, firstOf, laterOf, blockRoot, lineRoot, rootOf};
 
 fn put_dashes(w: Writer, out: &mut [u8]) -> Writer
     requires { ⌜ length (now out) < 2 ^ 62 ⌝ }
@@ -89,11 +89,27 @@ fn put_separation(w: Writer, out: &mut [u8], lead: Lead) -> Writer
     put_dashes(w, out)
 }
 
-// What stands before a document's root.
+// Nothing stands before the root.
+fn is_plain(lead: Lead) -> bool
+    ensures { λ r. ⌜ r ≡ plainIn lead ⌝ }
+{
+    if lead.directives.count != 0 {
+        return false;
+    }
+    if lead.heads.count != 0 {
+        return false;
+    }
+    !parts::is_marked(lead.lines.marks, 32)
+}
+
+// What stands before a document's root: one test first, so that where nothing does, no writer is copied.
 fn put_opening(w: Writer, deck: &[u8], pool: &[u8], out: &mut [u8], lead: Lead) -> Writer
     requires { ⌜ (length (now out) < 2 ^ 62) × Short lead ⌝ }
     ensures { λ r. ⌜ Draws (opened (now (deck .entry)) (now (pool .entry)) lead) (pen w (now (out .entry))) (pen r (now (out .exit))) ⌝ }
 {
+    if is_plain(lead) {
+        return w;
+    }
     let w1 = parts::put_repeated(w, deck, pool, out, lead, Entries::Directives, 0);
     let w2 = put_start(w1, out, lead.lines.marks);
     parts::put_repeated(w2, deck, pool, out, lead, Entries::Heads, 0)
@@ -133,37 +149,6 @@ fn put_inlined(
     flow::line(w, deck, pool, out, settings, x, i, Manner::Value)
 }
 
-// What stands between a document's head and foot comments.
-fn put_body(
-    w: Writer,
-    deck: &[u8],
-    pool: &[u8],
-    out: &mut [u8],
-    settings: Settings,
-    x: Spot,
-) -> Emitted
-    requires { ⌜ (Calm settings (now deck) (now pool) (pen w (now out)) (x .place) 0) × Good (now deck) x × (countIn (x .body) < 65536) ⌝ }
-    ensures { λ r. ⌜ Emits settings (body settings (nodeIn (now (deck .entry)) (now (pool .entry)) x)) (pen w (now (out .entry))) (pen (r .w) (now (out .exit))) (x .place) (endIn (now (deck .entry)) (now (pool .entry)) x) (r .next) (length (now (deck .entry))) ⌝ }
-{
-    let body = x.body;
-    if choices::is_block(body) {
-        return put_block(w, deck, pool, out, settings, x);
-    }
-    if choices::bare_root(
-        settings,
-        x.lead.lines,
-        x.lead.remark,
-        x.lead.tag,
-        x.lead.anchor,
-        body,
-    ) {
-        let v = parts::put_props_line(w, deck, pool, out, x.lead);
-        let next = x.next;
-        return Emitted { w: v, next };
-    }
-    put_inlined(w, deck, pool, out, settings, x)
-}
-
 // The root's include is written in its place.
 fn is_directed(origin: Origin, passed: bool) -> bool
     ensures { λ r. ⌜ r ≡ (includedIn origin && not passed) ⌝ }
@@ -182,18 +167,34 @@ fn put_root(
     out: &mut [u8],
     settings: Settings,
     c: Cursor,
-    x: Spot,
     passed: bool,
 ) -> Emitted
-    requires { ⌜ (Calm settings (now deck) (now pool) (pen w (now out)) (c .at) 0) × (x ≡ spotAt (now deck) c) ⌝ }
-    ensures { λ r. ⌜ Emits settings (rootOf settings (now (deck .entry)) (now (pool .entry)) passed x) (pen w (now (out .entry))) (pen (r .w) (now (out .exit))) (c .at) (nextAt (now (deck .entry)) (now (pool .entry)) c) (r .next) (length (now (deck .entry))) ⌝ }
+    requires { ⌜ Calm settings (now deck) (now pool) (pen w (now out)) (c .at) 0 ⌝ }
+    ensures { λ r. ⌜ Emits settings (rootOf settings (now (deck .entry)) (now (pool .entry)) passed (spotAt (now (deck .entry)) c)) (pen w (now (out .entry))) (pen (r .w) (now (out .exit))) (c .at) (nextAt (now (deck .entry)) (now (pool .entry)) c) (r .next) (length (now (deck .entry))) ⌝ }
 {
+    let x = spot::spot_at(deck, c);
+    let body = x.body;
     if is_directed(x.lead.origin, passed) {
         let v = parts::put_include_line(w, deck, pool, out, x.place, x.lead);
         let next = node::subtree_end(deck, c);
         return Emitted { w: v, next };
     }
-    put_body(w, deck, pool, out, settings, x)
+    if choices::is_block(body) {
+        return put_block(w, deck, pool, out, settings, x);
+    }
+    if choices::bare_root(
+        settings,
+        x.lead.lines,
+        x.lead.remark,
+        x.lead.tag,
+        x.lead.anchor,
+        body,
+    ) {
+        let v = parts::put_props_line(w, deck, pool, out, x.lead);
+        let next = x.next;
+        return Emitted { w: v, next };
+    }
+    put_inlined(w, deck, pool, out, settings, x)
 }
 
 // `emit_document`, of the tree at a cursor.
@@ -211,7 +212,7 @@ fn put_document(
     ensures { λ r. ⌜ Emits settings (document settings passed (nodeAt (now (deck .entry)) (now (pool .entry)) c)) (pen w (now (out .entry))) (pen (r .w) (now (out .exit))) (c .at) (nextAt (now (deck .entry)) (now (pool .entry)) c) (r .next) (length (now (deck .entry))) ⌝ }
 {
     let w1 = put_opening(w, deck, pool, out, x.lead);
-    let e = put_root(w1, deck, pool, out, settings, c, x, passed);
+    let e = put_root(w1, deck, pool, out, settings, c, passed);
     let next = e.next;
     let v1 = parts::put_repeated(e.w, deck, pool, out, x.lead, Entries::Foots, 0);
     Emitted { w: v1, next }

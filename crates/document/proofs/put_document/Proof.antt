@@ -1,3 +1,4 @@
+-- `document::put_document` meets its contract.
 use Rattle.layout.specs.Calm.{calm-drawn, calm-after}
 use native.Mathlib.Omega.{arith}
 use Rattle.parts.specs.Runs.{repeated}
@@ -7,23 +8,18 @@ use borrow.Author.Needs.{needs}
 use Rattle.document.proofs.put_document.Statement.{statement}
 use Rattle.document.proofs.put_document.Tie as tie
 
--- src/lib.rt:236:9
 put-opening-requires : tie.Need-put-opening-requires
 put-opening-requires c κs = let r = (c .before .before .before .before .pre) .0 .ready in let g = spot-good _ _ _ (r .here) (r .deck-small) ((c .before .before .before .before .pre) .1) in (let o = r .out-small in omega (arith, o), g .0 .short)
 
--- src/lib.rt:237:9
 put-root-requires : tie.Need-put-root-requires
-put-root-requires c κs = (calm-drawn ((c .before .before .before .before .before .before .before .before .pre) .0) (c .before .before .before .put-opening .ensures), (c .before .before .before .before .before .before .before .before .pre) .1)
+put-root-requires c κs = calm-drawn ((c .before .before .before .before .before .before .before .before .pre) .0) (c .before .before .before .put-opening .ensures)
 
--- src/lib.rt:240:9
 put-repeated-requires : tie.Need-put-repeated-requires
 put-repeated-requires c κs = let r = (c .before .before .before .before .before .before .before .before .before .before .before .before .before .pre) .0 .ready in let g = spot-good _ _ _ (r .here) (r .deck-small) ((c .before .before .before .before .before .before .before .before .before .before .before .before .before .pre) .1) in let b = calm-after (calm-drawn ((c .before .before .before .before .before .before .before .before .before .before .before .before .before .pre) .0) (c .before .before .before .before .before .before .before .before .put-opening .ensures)) _ _ _ (c .before .before .before .before .put-root .ensures .drawn) in (let o = b .ready .out-small in omega (arith, o), g .0 .short)
 
--- src/lib.rt:222:1
 same-length : tie.Need-same-length
 same-length c = search needs
 
--- src/lib.rt:222:1
 returns : tie.Need-returns
 unfolding repeated
 returns c = document-whole _ _ _ _ _ _ _ ((c .before .before .before .before .before .before .before .before .before .before .before .before .before .before .before .before .pre) .0 .ready .here) ((c .before .before .before .before .before .before .before .before .before .before .before .before .before .before .before .before .pre) .1) (c .before .before .before .before .before .before .before .before .before .before .before .put-opening .ensures) (c .before .before .before .before .before .before .before .put-root .ensures) (c .before .before .put-repeated .ensures)
