@@ -449,7 +449,7 @@ pub fn put_break(
     w2.byte(out, b'\n')
 }
 
-// The inline comment, and the end of the line.
+// The inline comment, and the end of the line. Most nodes have no comment: that is tested here.
 pub fn put_close(
     w: Writer,
     deck: &[u8],
@@ -461,6 +461,9 @@ pub fn put_close(
     requires { ⌜ (length (now out) < 2 ^ 62) × (place < 2 ^ 62) ⌝ }
     ensures { λ r. ⌜ Draws (closes place (remarkOf (now (deck .entry)) (now (pool .entry)) remark)) (pen w (now (out .entry))) (pen r (now (out .exit))) ⌝ }
 {
+    if remark.at == 0 {
+        return w.end_line(out);
+    }
     let w1 = put_remark(w, deck, pool, out, place, remark);
     w1.end_line(out)
 }
