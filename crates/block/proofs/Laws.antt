@@ -5,6 +5,7 @@ use Prim.Native.Nat.{ℕ, zero, suc, _+_, _-_, _<_, _≤_}
 use native.Mathlib.Omega.{arith}
 use mathlib.Core.Bool.{Bool, true, false}
 use lib.ListN.{length}
+use lib.Dec.{eqb}
 use Rattle.definition.specs.Base.{Bytes, if_then_else_}
 use Rattle.definition.specs.Ascii.{LF, SP, '-', '?'}
 use Rattle.definition.specs.Settings.{stepOf}
@@ -12,9 +13,6 @@ use Rattle.definition.specs.Tree.{Node, kept}
 use Rattle.definition.specs.Pen.{mark, space, Script, nothing, newline, sign}
 use Rattle.definition.specs.Walk.{propsCompact, included, isBlock, colonBlock, dashBlock, dashCompact, valueOf, bare, valueColumn, itemColumn, onDashLine, content, value, dash, keyBelow, members}
 use Rattle.definition.specs.declared.Cursor.{Cursor}
-use Rattle.definition.specs.declared.Group.{Group}
-use Rattle.definition.specs.declared.Text.{Text}
-use Rattle.definition.specs.declared.Words.{Words}
 use Rattle.definition.specs.declared.Settings.{Settings}
 use Rattle.node.specs.Total.{broughtOf}
 use Rattle.pen.specs.Pen.{Pen, put1, puts, ink}
@@ -23,8 +21,8 @@ use Rattle.parts.specs.Lines.{before, breaks, colonOpen, dashOpen}
 use Rattle.spot.specs.declared.Body.{Body}
 use Rattle.spot.specs.declared.Body.the-variants as body
 use Rattle.spot.specs.declared.Spot.{Spot}
-use Rattle.spot.specs.Spot.{kindOf, endOf, keptIn, broughtIn, kindIn, endIn, nodeIn, spotAt, tree-value}
-use Rattle.spot.specs.Good.{Good, isGroup}
+use Rattle.spot.specs.Spot.{caseOf, kindOf, endOf, keptIn, broughtIn, kindIn, endIn, nodeIn, spotAt, tree-value}
+use Rattle.spot.specs.Good.{Good, isGroup, countIn}
 use Rattle.atoms.specs.Atoms.{on}
 use Rattle.choices.specs.Choices.{blockIn, block-is, explicitIn, explicit-is, includedIn, included-is, valueColumnIn, value-column-is, itemColumnIn, item-column-is, onDashLineIn, on-dash-line-is}
 use Rattle.joints.specs.declared.Manner.the-variants.{Key}
@@ -57,47 +55,29 @@ module _ (s : Settings) (deck pool : Bytes) where
 
   -- ---- the members of a collection
 
-  none-emits : (x : Spot) (i : ℕ) (begin : Bool) (P : Pen) → Good deck x → members s i begin (kindIn deck pool x) ≡ nothing → endIn deck pool x ≡ x .next → Emits s (members s i begin (kindIn deck pool x)) P P (x .place) (endIn deck pool x) (x .next) (length deck)
-  unfolding ink nothing puts
-  none-emits x i begin P g a e = record { drawn = rw a; next = sym e; onward = g .ahead; within = g .within }
+  -- a body that is no collection has no rows
+  rows-of :
+      (i : ℕ) (begin : Bool) (b : Body) (c : Cursor) (P : Pen)
+      → (ink s (rows s deck pool i (eqb (caseOf b) 4) begin true (countIn b) c) P ≡ ink s (members s i begin (kindOf deck pool b c)) P) × (runEnd deck pool (eqb (caseOf b) 4) (countIn b) c ≡ endOf deck pool b c)
+  unfolding caseOf countIn members rows runEnd kindOf endOf
+  rows-of i begin body.Null c P = (refl, refl)
+  rows-of i begin (body.Scalar w) c P = (refl, refl)
+  rows-of i begin (body.Alias t) c P = (refl, refl)
+  rows-of i begin (body.Sequence g) c P = (sym (rows-items s deck pool i begin true (g .count) c P), sym (items-end deck pool (g .count) c))
+  rows-of i begin (body.Mapping g) c P = (sym (rows-pairs s deck pool i begin true (g .count) c P), sym (pairs-end deck pool (g .count) c))
 
-  pub members-null : (x : Spot) (i : ℕ) (begin : Bool) {P : Pen} → Good deck x → x .body ≡ body.Null → Emits s (members s i begin (kindIn deck pool x)) P P (x .place) (endIn deck pool x) (x .next) (length deck)
-  unfolding members kindOf endOf
-  members-null x i begin {P} g e = none-emits x i begin P g (rw e) (rw e)
-
-  pub members-scalar : (x : Spot) (i : ℕ) (begin : Bool) (t : Words) {P : Pen} → Good deck x → x .body ≡ body.Scalar t → Emits s (members s i begin (kindIn deck pool x)) P P (x .place) (endIn deck pool x) (x .next) (length deck)
-  unfolding members kindOf endOf
-  members-scalar x i begin t {P} g e = none-emits x i begin P g (rw e) (rw e)
-
-  pub members-alias : (x : Spot) (i : ℕ) (begin : Bool) (t : Text) {P : Pen} → Good deck x → x .body ≡ body.Alias t → Emits s (members s i begin (kindIn deck pool x)) P P (x .place) (endIn deck pool x) (x .next) (length deck)
-  unfolding members kindOf endOf
-  members-alias x i begin t {P} g e = none-emits x i begin P g (rw e) (rw e)
-
-  pub members-items :
-      (x : Spot) (i : ℕ) (begin : Bool) (g : Group) (r : Cursor) {P Q : Pen} → Good deck x → x .body ≡ body.Sequence g
-      → Emits s (rows s deck pool i false begin true (g .count) (x .next)) P Q (x .next .at) (runEnd deck pool false (g .count) (x .next)) r (length deck)
+  pub members-rows :
+      (x : Spot) (i : ℕ) (begin : Bool) (k n : ℕ) (r : Cursor) {P Q : Pen} → Good deck x → k ≡ caseOf (x .body) → n ≡ countIn (x .body)
+      → Emits s (rows s deck pool i (eqb k 4) begin true n (x .next)) P Q (x .next .at) (runEnd deck pool (eqb k 4) n (x .next)) r (length deck)
       → Emits s (members s i begin (kindIn deck pool x)) P Q (x .place) (endIn deck pool x) r (length deck)
-  unfolding members kindOf endOf
-  members-items x i begin g r {P} h e m =
-      rw e (record {
-        drawn = m .drawn ∙ sym (rows-items s deck pool i begin true (g .count) (x .next) P);
-        next = m .next ∙ sym (items-end deck pool (g .count) (x .next));
-        onward = (let a = h .ahead in let o = m .onward in omega (arith, a, o));
+  members-rows x i begin k n r {P} g e f m =
+      let t = rw (← e, ← f) at (rows-of i begin (x .body) (x .next) P) in
+      record {
+        drawn = m .drawn ∙ t .0;
+        next = m .next ∙ t .1;
+        onward = (let a = g .ahead in let o = m .onward in omega (arith, a, o));
         within = m .within;
-      })
-
-  pub members-pairs :
-      (x : Spot) (i : ℕ) (begin : Bool) (g : Group) (r : Cursor) {P Q : Pen} → Good deck x → x .body ≡ body.Mapping g
-      → Emits s (rows s deck pool i true begin true (g .count) (x .next)) P Q (x .next .at) (runEnd deck pool true (g .count) (x .next)) r (length deck)
-      → Emits s (members s i begin (kindIn deck pool x)) P Q (x .place) (endIn deck pool x) r (length deck)
-  unfolding members kindOf endOf
-  members-pairs x i begin g r {P} h e m =
-      rw e (record {
-        drawn = m .drawn ∙ sym (rows-pairs s deck pool i begin true (g .count) (x .next) P);
-        next = m .next ∙ sym (pairs-end deck pool (g .count) (x .next));
-        onward = (let a = h .ahead in let o = m .onward in omega (arith, a, o));
-        within = m .within;
-      })
+      }
 
   -- ---- rows one after another: finishing from here ends as finishing from the start would
 

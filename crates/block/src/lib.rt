@@ -5,7 +5,6 @@ use flow::Emitted;
 use joints::Manner;
 use parts::Entries;
 use pen::Writer;
-use spot::Body;
 use spot::Spot;
 ghost use mathlib.Core.Path.{_≡_};
 ghost use Prim.Native.Nat.{_<_, _^_};
@@ -79,13 +78,9 @@ pub fn put_members(
 {
     let body = x.body;
     let next = x.next;
-    match body {
-        Body::Null => Emitted { w, next },
-        Body::Scalar(_) => Emitted { w, next },
-        Body::Alias(_) => Emitted { w, next },
-        Body::Sequence(g) => put_rows(w, deck, pool, out, settings, false, g.count, next, i, begin),
-        Body::Mapping(g) => put_rows(w, deck, pool, out, settings, true, g.count, next, i, begin),
-    }
+    let pairs = spot::case_of(body) == 4;
+    let n = choices::count_of(body);
+    put_rows(w, deck, pool, out, settings, pairs, n, next, i, begin)
 }
 
 // `emit_block_sequence` and `emit_block_mapping`: the n items or pairs from a cursor on.

@@ -24,6 +24,7 @@ ghost use Rattle.definition.specs.Settings.{stepOf, isEmptyStyle};
 ghost use Rattle.definition.specs.Deck.{words, marked};
 ghost use Rattle.definition.specs.Walk.{isBlockForm, isBlockStyle, isPlain};
 ghost use Rattle.parts.specs.Runs.{hasHeld};
+ghost use Rattle.spot.specs.Good.{countIn};
 ghost use Rattle.atoms.specs.Atoms.{on};
 ghost use Rattle.choices.specs.Choices.{blockGroup, blockIn, sequenceIn, noneIn, emptyIn, needsIn, explicitIn, includedIn, editedIn, bareIn, flushIn, valueColumnIn, itemColumnIn, onDashLineIn, rootColumnIn, bareRootIn};
 ghost use Rattle.choices.specs.Siblings.{Some, SomeItems, SomePairs};
@@ -70,6 +71,19 @@ pub fn is_null(body: Body) -> bool
     ensures { λ r. ⌜ r ≡ noneIn body ⌝ }
 {
     spot::case_of(body) == 0
+}
+
+// How many members a collection has; a leaf has none.
+pub fn count_of(body: Body) -> usize
+    ensures { λ r. ⌜ r ≡ countIn body ⌝ }
+{
+    match body {
+        Body::Null => 0,
+        Body::Scalar(_) => 0,
+        Body::Alias(_) => 0,
+        Body::Sequence(g) => g.count,
+        Body::Mapping(g) => g.count,
+    }
 }
 
 fn is_plain(style: Style) -> bool

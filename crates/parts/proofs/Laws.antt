@@ -3,7 +3,7 @@
 use mathlib.Core.Path.{_≡_, sym, ap, _∙_}
 use Prim.Native.Nat.{ℕ, zero, suc, _+_, _-_, _<_, _^_}
 use native.Mathlib.Omega.{arith}
-use mathlib.Core.Bool.{Bool, false, true≢false, _||_}
+use mathlib.Core.Bool.{Bool, true, false, true≢false, _||_}
 use mathlib.Core.List.{[], _∷_, _++_}
 use mathlib.Core.Option.{Option, none, some}
 use borrow.Author.Tests.{eq-eqb, ne-eqb}
@@ -28,23 +28,23 @@ use Rattle.pen.specs.Pen.{Pen, put1, puts, and-then, noteOf, noted, ink}
 use Rattle.parts.specs.declared.Entries.{Entries}
 use Rattle.parts.specs.declared.Entries.the-variants.{Heads, Over, Under, Foots, Directives}
 use Rattle.parts.specs.Draws.{Draws, both, stays}
-use Rattle.parts.specs.Lines.{propsBy, tagFirst}
+use Rattle.parts.specs.Lines.{propsOf, propsBy, tagFirst}
 use Rattle.parts.specs.Runs.{stride, entry, entries, runOf, repeated, repeated-drawn, Short, hasHeld, held-some}
 
 -- ---- a part that may be absent
 
-neither : (before between after : Bytes) (x y : Option Bytes) {P : Pen} → (isSome x || isSome y) ≡ false → Draws (propsBy before x between y after) P P
-unfolding propsBy prop isSome
-neither before between after none none e = both nothing nothing stays stays
-neither before between after none (some t) e = absurd (true≢false e)
-neither before between after (some t) y e = absurd (true≢false e)
+neither : (compact : Bool) (x y : Option Bytes) {P : Pen} → (isSome x || isSome y) ≡ false → Draws (propsBy compact x y) P P
+unfolding propsBy propsOf prop isSome
+neither true none none e = both nothing nothing stays stays
+neither false none none e = both nothing nothing stays stays
+neither compact none (some t) e = absurd (true≢false e)
+neither compact (some t) y e = absurd (true≢false e)
 
 -- neither a tag nor an anchor
 pub no-props :
-    (deck pool before between after : Bytes) (x y : Held) (b : Bool) {P : Pen} → b ≡ (hasHeld x || hasHeld y) → b ≡ false
-    → Draws (propsBy before (heldOf deck pool x) between (heldOf deck pool y) after) P P
-no-props deck pool before between after x y b e f =
-    neither before between after (heldOf deck pool x) (heldOf deck pool y) (rw (held-some deck pool x, held-some deck pool y) (sym e ∙ f))
+    (deck pool : Bytes) (compact : Bool) (x y : Held) (b : Bool) {P : Pen} → b ≡ (hasHeld x || hasHeld y) → b ≡ false
+    → Draws (propsBy compact (heldOf deck pool x) (heldOf deck pool y)) P P
+no-props deck pool compact x y b e f = neither compact (heldOf deck pool x) (heldOf deck pool y) (rw (held-some deck pool x, held-some deck pool y) (sym e ∙ f))
 
 pub no-remark : (deck pool : Bytes) (place : ℕ) (m : Remark) (P : Pen) → m .at ≡ 0 → Draws (comment place (remarkOf deck pool m)) P P
 unfolding ink noteOf remarkOf

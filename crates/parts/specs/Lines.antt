@@ -9,13 +9,14 @@ use Rattle.definition.specs.Tree.{Source, Inline, Kept, Brought}
 use Rattle.definition.specs.Pen.{directive, Script, put, comment, endLine, _>>_, newline, indent}
 use Rattle.definition.specs.Walk.{blanks, heads, headsBelow, aboveDash, belowDash, prop, propsCompact, directiveOf}
 
--- a tag and an anchor: what stands before the tag, before the anchor, and after each
-unfoldable pub propsBy : Bytes → Option Bytes → Bytes → Option Bytes → Bytes → Script
-propsBy before t between a after = prop before t after >> prop between a after
-
--- each with its space
+-- a tag and an anchor, each with its space
 unfoldable pub propsOf : Option Bytes → Option Bytes → Script
-propsOf t a = propsBy [] t ('&' ∷ []) a (SP ∷ [])
+propsOf t a = prop [] t (SP ∷ []) >> prop ('&' ∷ []) a (SP ∷ [])
+
+-- each after a space, or each with its space
+unfoldable pub propsBy : Bool → Option Bytes → Option Bytes → Script
+propsBy true t a = prop (SP ∷ []) t [] >> prop (SP ∷ '&' ∷ []) a []
+propsBy false t a = propsOf t a
 
 -- the tag of a line of properties: a space where an anchor follows
 unfoldable pub tagFirst : Brought → Script

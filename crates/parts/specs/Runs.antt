@@ -23,7 +23,7 @@ use Rattle.pen.specs.Pen.{Pen, puts, ink}
 use Rattle.parts.specs.declared.Entries.{Entries}
 use Rattle.parts.specs.declared.Entries.the-variants.{Heads, Over, Under, Foots, Directives}
 use Rattle.parts.specs.Draws.{Draws}
-use Rattle.parts.specs.Lines.{propsBy, propsOf}
+use Rattle.parts.specs.Lines.{propsOf}
 
 -- the bytes of a record
 unfoldable pub stride : Entries → ℕ
@@ -93,7 +93,7 @@ has-props-is deck pool l = rw (held-some, held-some)
 -- those of a node
 pub of-props :
     (deck pool : Bytes) (l : Lead) {P Q : Pen} → Draws (propsOf (heldOf deck pool (l .tag)) (heldOf deck pool (l .anchor))) P Q → Draws (props (broughtOf deck pool l)) P Q
-unfolding props propsOf propsBy broughtOf
+unfolding props propsOf broughtOf
 of-props deck pool l d = d
 
 module _ (deck pool : Bytes) (i : ℕ) (s : Settings) where

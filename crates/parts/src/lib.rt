@@ -294,23 +294,25 @@ fn put_prop(
     w2.text(out, after)
 }
 
-// A tag and an anchor, where they are there: what stands before the tag, before the anchor, and after each.
+// A tag and an anchor, where they are there: each after a space, or each with a space after it.
 fn put_both(
     w: Writer,
     deck: &[u8],
     pool: &[u8],
     out: &mut [u8],
-    before: &[u8],
+    compact: bool,
     tag: Held,
-    between: &[u8],
     anchor: Held,
-    after: &[u8],
 ) -> Writer
     requires { ⌜ length (now out) < 2 ^ 62 ⌝ }
-    ensures { λ r. ⌜ Draws (propsBy (now (before .entry)) (heldOf (now (deck .entry)) (now (pool .entry)) tag) (now (between .entry)) (heldOf (now (deck .entry)) (now (pool .entry)) anchor) (now (after .entry))) (pen w (now (out .entry))) (pen r (now (out .exit))) ⌝ }
+    ensures { λ r. ⌜ Draws (propsBy compact (heldOf (now (deck .entry)) (now (pool .entry)) tag) (heldOf (now (deck .entry)) (now (pool .entry)) anchor)) (pen w (now (out .entry))) (pen r (now (out .exit))) ⌝ }
 {
-    let w1 = put_prop(w, deck, pool, out, before, tag, after);
-    put_prop(w1, deck, pool, out, between, anchor, after)
+    if compact {
+        let w1 = put_prop(w, deck, pool, out, b" ", tag, b"");
+        return put_prop(w1, deck, pool, out, b" &", anchor, b"");
+    }
+    let w1 = put_prop(w, deck, pool, out, b"", tag, b" ");
+    put_prop(w1, deck, pool, out, b"&", anchor, b" ")
 }
 
 // `emit_anchor_tag`. Most nodes have neither: that is tested here, so that the writer is not handed on for nothing.
@@ -326,7 +328,7 @@ pub fn put_props(
     ensures { λ r. ⌜ Draws (propsOf (heldOf (now (deck .entry)) (now (pool .entry)) tag) (heldOf (now (deck .entry)) (now (pool .entry)) anchor)) (pen w (now (out .entry))) (pen r (now (out .exit))) ⌝ }
 {
     if is_either(tag, anchor) {
-        return put_both(w, deck, pool, out, b"", tag, b"&", anchor, b" ");
+        return put_both(w, deck, pool, out, false, tag, anchor);
     }
     w
 }
@@ -337,7 +339,7 @@ pub fn put_props_compact(w: Writer, deck: &[u8], pool: &[u8], out: &mut [u8], le
     ensures { λ r. ⌜ Draws (propsCompact (broughtOf (now (deck .entry)) (now (pool .entry)) lead)) (pen w (now (out .entry))) (pen r (now (out .exit))) ⌝ }
 {
     if is_either(lead.tag, lead.anchor) {
-        return put_both(w, deck, pool, out, b" ", lead.tag, b" &", lead.anchor, b"");
+        return put_both(w, deck, pool, out, true, lead.tag, lead.anchor);
     }
     w
 }
@@ -449,7 +451,7 @@ pub fn put_break(
     w2.byte(out, b'\n')
 }
 
-// The inline comment, and the end of the line.
+// The inline comment, and the end of the line. Most nodes have no comment: that is tested here.
 pub fn put_close(
     w: Writer,
     deck: &[u8],
@@ -461,6 +463,9 @@ pub fn put_close(
     requires { ⌜ (length (now out) < 2 ^ 62) × (place < 2 ^ 62) ⌝ }
     ensures { λ r. ⌜ Draws (closes place (remarkOf (now (deck .entry)) (now (pool .entry)) remark)) (pen w (now (out .entry))) (pen r (now (out .exit))) ⌝ }
 {
+    if remark.at == 0 {
+        return w.end_line(out);
+    }
     let w1 = put_remark(w, deck, pool, out, place, remark);
     w1.end_line(out)
 }

@@ -28,11 +28,11 @@ use Rattle.block.proofs.put_value.Reads as put-value
 use Rattle.block.proofs.+put_dash+put_dashed+put_key+put_members+put_question+put_row+put_rows+put_under+put_value.Lts-put_value as put-value-lts
 use Rattle.block.proofs.+put_dash+put_dashed+put_key+put_members+put_question+put_row+put_rows+put_under+put_value.{statement}
 use Rattle.block.proofs.+put_dash+put_dashed+put_key+put_members+put_question+put_row+put_rows+put_under+put_value.Tie.{close}
-use Rattle.block.proofs.+put_dash+put_dashed+put_key+put_members+put_question+put_row+put_rows+put_under+put_value.Proof.Base.{μ-put-dash, μ-put-dashed, μ-put-key, μ-put-members, μ-put-question, μ-put-row, μ-put-rows, μ-put-under, μ-put-value, put-dash-at, put-dashed-at, put-key-at, put-members-at, put-question-at, put-row-at, put-row-below, put-rows-at, put-rows-below, put-under-at, put-value-at, put-dash-claims, put-dashed-claims, put-key-claims, put-question-claims, put-row-claims, put-under-claims, put-value-claims}
+use Rattle.block.proofs.+put_dash+put_dashed+put_key+put_members+put_question+put_row+put_rows+put_under+put_value.Proof.Base.{μ-put-dash, μ-put-dashed, μ-put-key, μ-put-members, μ-put-question, μ-put-row, μ-put-rows, μ-put-under, μ-put-value, put-dash-at, put-dashed-at, put-key-at, put-members-at, put-question-at, put-row-at, put-row-below, put-rows-at, put-under-at, put-value-at, put-dash-claims, put-dashed-claims, put-key-claims, put-members-claims, put-question-claims, put-row-claims, put-under-claims, put-value-claims}
 use Rattle.block.proofs.+put_dash+put_dashed+put_key+put_members+put_question+put_row+put_rows+put_under+put_value.Proof.PutDash.{put-dash-byte-requires, put-dash-is-included-requires, put-dash-put-include-requires, put-dash-same-length, put-dash-returns, put-dash-is-block-requires, put-dash-put-dashed-requires, put-dash-same-length-2, put-dash-returns-2, put-dash-add-put-value, put-dash-put-value-requires, put-dash-same-length-3, put-dash-returns-3}
 use Rattle.block.proofs.+put_dash+put_dashed+put_key+put_members+put_question+put_row+put_rows+put_under+put_value.Proof.PutDashed.{put-dashed-on-dash-line-requires, put-dashed-byte-requires, put-dashed-add-put-members, put-dashed-put-members-requires, put-dashed-add-with-foots, put-dashed-with-foots-requires, put-dashed-same-length, put-dashed-returns, put-dashed-item-column-requires, put-dashed-add-put-under, put-dashed-put-under-requires, put-dashed-same-length-2, put-dashed-returns-2}
 use Rattle.block.proofs.+put_dash+put_dashed+put_key+put_members+put_question+put_row+put_rows+put_under+put_value.Proof.PutKey.{put-key-is-explicit-requires, put-key-byte-requires, put-key-put-question-requires, put-key-with-colon-requires, put-key-same-length, put-key-returns, put-key-line-requires, put-key-same-length-2, put-key-returns-2}
-use Rattle.block.proofs.+put_dash+put_dashed+put_key+put_members+put_question+put_row+put_rows+put_under+put_value.Proof.PutMembers.{put-members-enum-told, put-members-enum-told-2, put-members-enum-told-3, put-members-enum-known-body, put-members-put-rows-requires, put-members-enum-known-body-2, put-members-put-rows-requires-2, put-members-returns, put-members-returns-2, put-members-returns-3, put-members-same-length, put-members-returns-4, put-members-same-length-2, put-members-returns-5}
+use Rattle.block.proofs.+put_dash+put_dashed+put_key+put_members+put_question+put_row+put_rows+put_under+put_value.Proof.PutMembers.{put-members-case-of-requires, put-members-count-of-requires, put-members-put-rows-requires, put-members-same-length, put-members-returns}
 use Rattle.block.proofs.+put_dash+put_dashed+put_key+put_members+put_question+put_row+put_rows+put_under+put_value.Proof.PutQuestion.{put-question-step-of-requires, put-question-add-j, put-question-is-block-requires, put-question-put-props-compact-requires, put-question-byte-requires, put-question-put-members-requires, put-question-same-length, put-question-returns, put-question-put-key-line-requires, put-question-same-length-2, put-question-returns-2}
 use Rattle.block.proofs.+put_dash+put_dashed+put_key+put_members+put_question+put_row+put_rows+put_under+put_value.Proof.PutRow.{put-row-spot-at-requires, put-row-put-before-requires, put-row-put-key-requires, put-row-put-value-requires, put-row-same-length, put-row-returns, put-row-put-dash-requires, put-row-same-length-2, put-row-returns-2}
 use Rattle.block.proofs.+put_dash+put_dashed+put_key+put_members+put_question+put_row+put_rows+put_under+put_value.Proof.PutRows.{put-rows-Inv-loop, put-rows-μ-loop, put-rows-loop-holds, put-rows-put-row-requires, put-rows-sub-left, put-rows-loop-less, put-rows-loop-again, put-rows-same-length, put-rows-returns}
@@ -96,24 +96,14 @@ pub +put-dash+put-dashed+put-key+put-members+put-question+put-row+put-rows+put-u
     (put-key-line-requires t)
     (put-key-same-length-2 t)
     (put-key-returns-2 t))
-    (λ t. put-members-lts.spec
-    (put-rows-below t, put-rows.Post)
+    (λ t. put-members-lts.spec (put-members-claims t)
     (put-members-at t)
     put-members.Post
-    (put-members-enum-told t)
-    (put-members-enum-told-2 t)
-    (put-members-enum-told-3 t)
-    (put-members-enum-known-body t)
+    (put-members-case-of-requires t)
+    (put-members-count-of-requires t)
     (put-members-put-rows-requires t)
-    (put-members-enum-known-body-2 t)
-    (put-members-put-rows-requires-2 t)
-    (put-members-returns t)
-    (put-members-returns-2 t)
-    (put-members-returns-3 t)
     (put-members-same-length t)
-    (put-members-returns-4 t)
-    (put-members-same-length-2 t)
-    (put-members-returns-5 t))
+    (put-members-returns t))
     (λ t. put-question-lts.spec (put-question-claims t)
     (put-question-at t)
     put-question.Post

@@ -1,5 +1,6 @@
 -- `parts::put_props` meets its contract.
-use Rattle.parts.specs.Lines.{propsOf}
+use mathlib.Core.Bool.{false}
+use Rattle.parts.specs.Lines.{propsBy}
 use Rattle.parts.proofs.Laws.{no-props}
 use borrow.Author.Needs.{needs}
 use Rattle.parts.proofs.put_props.Statement.{statement}
@@ -8,15 +9,6 @@ use Rattle.parts.proofs.put_props.Tie as tie
 is-either-requires : tie.Need-is-either-requires
 is-either-requires c κs = search needs
 
-slice-aggregate-put-both : tie.Need-slice-aggregate-put-both
-slice-aggregate-put-both c = search needs
-
-slice-aggregate-put-both-2 : tie.Need-slice-aggregate-put-both-2
-slice-aggregate-put-both-2 c = search needs
-
-slice-aggregate-put-both-3 : tie.Need-slice-aggregate-put-both-3
-slice-aggregate-put-both-3 c = search needs
-
 put-both-requires : tie.Need-put-both-requires
 put-both-requires c κs = search needs
 
@@ -24,21 +16,18 @@ same-length : tie.Need-same-length
 same-length c = search needs
 
 returns : tie.Need-returns
-unfolding propsOf
+unfolding propsBy
 returns c = c .before .before .put-both .ensures
 
 returns-2 : tie.Need-returns-2
-unfolding propsOf
-returns-2 c = no-props _ _ _ _ _ _ _ _ (c .before .is-either .ensures) (c .if1 .left)
+unfolding propsBy
+returns-2 c = no-props _ _ false _ _ _ (c .before .is-either .ensures) (c .if1 .left)
 
 pub put-props-spec : {M : Type 1} → statement M
 put-props-spec =
     tie.close
     (tie.spec
     is-either-requires
-    slice-aggregate-put-both
-    slice-aggregate-put-both-2
-    slice-aggregate-put-both-3
     put-both-requires
     same-length
     returns

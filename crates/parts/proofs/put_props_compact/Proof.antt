@@ -1,4 +1,5 @@
 -- `parts::put_props_compact` meets its contract.
+use mathlib.Core.Bool.{true}
 use Rattle.definition.specs.Walk.{propsCompact}
 use Rattle.node.specs.Total.{broughtOf}
 use Rattle.parts.specs.Lines.{propsBy}
@@ -9,15 +10,6 @@ use Rattle.parts.proofs.put_props_compact.Tie as tie
 
 is-either-requires : tie.Need-is-either-requires
 is-either-requires c κs = search needs
-
-slice-aggregate-put-both : tie.Need-slice-aggregate-put-both
-slice-aggregate-put-both c = search needs
-
-slice-aggregate-put-both-2 : tie.Need-slice-aggregate-put-both-2
-slice-aggregate-put-both-2 c = search needs
-
-slice-aggregate-put-both-3 : tie.Need-slice-aggregate-put-both-3
-slice-aggregate-put-both-3 c = search needs
 
 put-both-requires : tie.Need-put-both-requires
 put-both-requires c κs = search needs
@@ -31,16 +23,13 @@ returns c = c .before .before .put-both .ensures
 
 returns-2 : tie.Need-returns-2
 unfolding propsCompact propsBy broughtOf
-returns-2 c = no-props _ _ _ _ _ _ _ _ (c .before .is-either .ensures) (c .if1 .left)
+returns-2 c = no-props _ _ true _ _ _ (c .before .is-either .ensures) (c .if1 .left)
 
 pub put-props-compact-spec : {M : Type 1} → statement M
 put-props-compact-spec =
     tie.close
     (tie.spec
     is-either-requires
-    slice-aggregate-put-both
-    slice-aggregate-put-both-2
-    slice-aggregate-put-both-3
     put-both-requires
     same-length
     returns

@@ -33,6 +33,7 @@ use Rattle.block.proofs.+put_dash+put_dashed+put_key+put_members+put_qu
 use Rattle.block.proofs.put_opening.Reads as put-opening-reads
 use Rattle.block.proofs.with_colon.Reads as with-colon-reads
 use Rattle.block.proofs.with_foots.Reads as with-foots-reads
+use Rattle.choices.proofs.count_of.Reads as count-of-reads
 use Rattle.choices.proofs.is_block.Reads as is-block-reads
 use Rattle.choices.proofs.is_explicit.Reads as is-explicit-reads
 use Rattle.choices.proofs.is_included.Reads as is-included-reads
@@ -47,6 +48,7 @@ use Rattle.layout.proofs.put_key_line.Reads as put-key-line-reads
 use Rattle.layout.proofs.put_value.Reads as put-value-reads
 use Rattle.parts.proofs.put_props_compact.Reads as put-props-compact-reads
 use Rattle.pen.proofs.Writer.byte.Reads as byte-reads
+use Rattle.spot.proofs.case_of.Reads as case-of-reads
 use Rattle.spot.proofs.spot_at.Reads as spot-at-reads
 
 abbrev pub μ-put-dash : Measures 3 put-dash-kinds.ps ℕ
@@ -192,6 +194,10 @@ put-key-claims t = (
 
 abbrev pub put-members-claims : ℕ → put-members-lts.Claims
 put-members-claims t = (
+  case-of-reads.Asked,
+  case-of-reads.Learnt,
+  count-of-reads.Asked,
+  count-of-reads.Learnt,
   put-rows-below t,
   put-rows.Post,
 )
