@@ -1,13 +1,18 @@
 //! The example of examples/: the recipe of a threshold screen, with comments and one included file, as the emit program takes it.
 
-use crate::deck::{build, Pooling};
+use crate::deck::{build, Deck, Pooling};
 use crate::random::Rng;
 use crate::roundtrip::ast::{HeadComment, IncludeSource, NodeStyle, YamlNode, YamlNodeKind};
 use crate::scanner::{ScalarStyle, Span};
 
+/// The recipe's deck and pool.
+pub fn deck() -> Deck {
+    build(&[screen()], Pooling::Shared, &mut Rng::new(1))
+}
+
 /// What stands on the program's standard input: the deck's length, the deck, the pool.
 pub fn input() -> Vec<u8> {
-    let made = build(&[screen()], Pooling::Shared, &mut Rng::new(1));
+    let made = deck();
     let length = u32::try_from(made.deck.len()).expect("A deck's length must fit into four bytes.");
     [&length.to_le_bytes()[..], &made.deck, &made.pool].concat()
 }

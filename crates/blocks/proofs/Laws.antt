@@ -6,15 +6,14 @@ use mathlib.Core.Path.{_≡_, refl, sym, ap, _∙_}
 use mathlib.Core.Bool.{Bool, true, false}
 use mathlib.Core.List.{[], _∷_, _++_, append-nil}
 use lib.ListN.{length, getD, drop, take, replicate}
-use lib.Seq.{drop-cons}
-use lib.Dec.{eqb}
+use lib.Seq.{drop-cons, take-suc}
 use borrow.Author.Tests.{eq-eqb, ne-eqb}
 use Rattle.pen.specs.Pen.{Pen, put1, puts, puts-append, and-then}
 use Rattle.pen.specs.Runs.{Run, parted, run-length}
 use Rattle.laws.specs.Tests.{Every, more}
 use Rattle.definition.specs.Base.{Bytes, if_then_else_, spaces}
 use Rattle.definition.specs.Block.{trailing, trimmed, chomping, indented, beyond, blockHeader, blockBody}
-use Rattle.laws.specs.Trim.{counted, trimmed-take, nothing-left, something-left}
+use Rattle.laws.specs.Trim.{trimmed-take, trailing-break, trailing-other, nothing-left, something-left}
 
 -- what holds of a byte and the text after it holds at a place of a text
 along : (F : Bytes → ℕ → Bytes → Type 0) (s : Bytes) (i : ℕ) → i < length s → ((a : ℕ) (t : Bytes) → F (a ∷ t) a t) → F (drop i s) (getD s i 0) (drop (i + 1) s)
@@ -25,10 +24,6 @@ module _ (n : ℕ) (s : Bytes) (i : ℕ) (h : i < length s) where
   unfolding indented puts
   line-broken fresh P P₁ e w =
       rw w (along (λ x a t. a ≡ 10 → puts (indented n true t) (put1 P 10) ≡ puts (indented n fresh x) P) s i h (λ a t e. rw (eq-eqb a 10 e)) e)
-
-  pub counted-on : (m r z : ℕ) → r ≡ (if eqb (getD s i 0) 10 then m + 1 else 0) → counted m (drop i s) ≡ z → counted r (drop (i + 1) s) ≡ z
-  unfolding counted
-  counted-on m r z e g = rw e (along (λ x a t. counted m x ≡ z → counted (if eqb a 10 then m + 1 else 0) t ≡ z) s i h (λ a t g. g) g)
 
 -- bytes without a line break
 line-own : (n : ℕ) (fresh : Bool) (x y : Bytes) → Every (λ a. (a ≡ 10 → ⊥)) x → 0 < length x → indented n fresh (x ++ y) ≡ (if fresh then spaces n else []) ++ (x ++ indented n false y)
@@ -52,12 +47,22 @@ module _ (n : ℕ) (s : Bytes) (i j : ℕ) (r : Run (λ a. (a ≡ 10 → ⊥)) s
       → puts (indented n false (drop j s)) P₁ ≡ puts (indented n fresh (drop i s)) P
   line-on fresh P P₁ g v = rw (v, g, line-run false) (sym (puts-append (take (j - i) (drop i s)) _ P))
 
-pub counted-le : (b m r : ℕ) → r ≡ (if eqb b 10 then m + 1 else 0) → r ≤ m + 1
-counted-le b m r e = rw e (go (eqb b 10))
-  where
-    go : (t : Bool) → (if t then m + 1 else 0) ≤ m + 1
-    go true = omega arith
-    go false = omega arith
+-- ---- the line breaks at the end, counted backward
+
+module _ (s : Bytes) (n : ℕ) where
+  pub trailing-on : (left : ℕ) → 0 < left → left ≤ length s → getD s (left - 1) 0 ≡ 10 → trailing s ≡ n + trailing (take left s) → trailing s ≡ n + 1 + trailing (take (left - 1) s)
+  trailing-on zero p l e h = absurd (omega arith)
+  trailing-on (suc m) p l e h =
+      let z : suc m - 1 ≡ m = omega arith in
+      let t : trailing (take (suc m) s) ≡ suc (trailing (take m s)) = rw (take-suc s m 0 (omega (arith, l)), rw z at e) (trailing-break (take m s)) in
+      rw z (omega (arith, h, t))
+
+  pub trailing-stop : (left : ℕ) → 0 < left → left ≤ length s → (getD s (left - 1) 0 ≡ 10 → ⊥) → trailing s ≡ n + trailing (take left s) → n ≡ trailing s
+  trailing-stop zero p l e h = absurd (omega arith)
+  trailing-stop (suc m) p l e h =
+      let z : suc m - 1 ≡ m = omega arith in
+      let t : trailing (take (suc m) s) ≡ 0 = rw (take-suc s m 0 (omega (arith, l))) (trailing-other (take m s) (getD s m 0) (ne-eqb (getD s m 0) 10 (rw z at e))) in
+      omega (arith, h, t)
 
 many : (t : ℕ) → 1 < t → (x : Bytes) → chomping t x ≡ 43 ∷ []
 unfolding chomping

@@ -3,10 +3,8 @@ ghost use mathlib.Core.Path.{_≡_};
 ghost use mathlib.Core.Bool.{true, false};
 ghost use Prim.Native.Nat.{_+_, _^_, _≤_, _<_};
 ghost use lib.ListN.{length, getD, drop};
-ghost use lib.Dec.{eqb};
 ghost use Rattle.pen.specs.Pen.{pen, puts};
 ghost use Rattle.pen.specs.Runs.{Run};
-ghost use Rattle.definition.specs.Base.{if_then_else_};
 ghost use Rattle.definition.specs.Block.{trailing, indented, blockHeader, blockBody};
 use pen::Writer;
 
@@ -81,25 +79,18 @@ fn put_lines(w: Writer, out: &mut [u8], t: &[u8], indent: usize) -> Writer
     w.byte(out, b'\n')
 }
 
-fn count_turn(n: usize, b: u8) -> usize
-    requires { ⌜ n < 18446744073709551615 ⌝ }
-    ensures { λ r. ⌜ r ≡ (if eqb b 10 then n + 1 else 0) ⌝ }
-{
-    if b == b'\n' {
-        return n + 1;
-    }
-    0
-}
-
 // How many line breaks a text ends in.
 fn trailing_breaks(t: &[u8]) -> usize
     ensures { λ r. ⌜ (r ≡ trailing (now (t .entry))) × (r ≤ length (now (t .entry))) ⌝ }
 {
     let mut n = 0;
-    let mut i = 0;
-    while i < t.len() {
-        n = count_turn(n, t[i]);
-        i += 1;
+    let mut left = t.len();
+    while left > 0 {
+        left -= 1;
+        if t[left] != b'\n' {
+            return n;
+        }
+        n += 1;
     }
     n
 }

@@ -160,6 +160,15 @@ turn q s i n p P P′ h st w m =
     let b : beside p ≡ q .more (getD s i 0) (getD (drop (suc i) s) 0 0) (getD (drop (suc i) s) 1 0) = rw d at (st .speaks) in
     rw (← drop-drop n (i + 1) s, ← body-skip, add-one, m, w, d, ← a, ← b, puts-append)
 
+-- a byte between single quotes is written
+pub turn-single : (s : Bytes) (i a : ℕ) (d : Bool) (P P′ : Pen) → i < length s → d ≡ true → a ≡ getD s i 0 → P′ ≡ puts (singlePiece a 0 0) P
+    → puts (body (quoteBy d) 0 (drop (i + 1) s)) P′ ≡ puts (body (quoteBy d) 0 (drop i s)) P
+unfolding body singlePiece
+turn-single s i a true P P′ h t e w =
+    let d : drop i s ≡ getD s i 0 ∷ drop (suc i) s = drop-cons s i 0 h in
+    rw (add-one, w, e, d, puts-append)
+turn-single s i a false P P′ h t e w = absurd (false≢true t)
+
 -- ---- bytes that are written as they are
 
 body-own : (q : Quote) (stop : ℕ) (x y : Bytes) → Every (Own q stop) x → body q 0 (x ++ y) ≡ x ++ body q 0 y

@@ -283,11 +283,28 @@ pub struct Going {
     pub at: usize,
 }
 
-// The piece for the byte at a place.
+// A byte between single quotes.
+fn put_single(w: Writer, out: &mut [u8], a: u8) -> Writer
+    requires { ⌜ length (now out) < 2 ^ 62 ⌝ }
+    ensures { λ r. ⌜ pen r (now (out .exit)) ≡ puts (singlePiece a 0 0) (pen w (now (out .entry))) ⌝ }
+{
+    if a == b'\'' {
+        return put_pair(w, out, a, a);
+    }
+    w.byte(out, a)
+}
+
+// The piece for the byte at a place. Between single quotes it is written at once: there a piece is one byte, or two.
 fn piece_turn(w: Writer, out: &mut [u8], t: &[u8], i: usize, single: bool) -> Going
     requires { ⌜ (i < length (now t)) × (length (now t) ≤ 65536) × (length (now out) < 2 ^ 62) ⌝ }
     ensures { λ r. ⌜ Further (quoteBy single) (now (t .entry)) i w (now (out .entry)) r (now (out .exit)) ⌝ }
 {
+    if single {
+        return Going {
+            w: put_single(w, out, t[i]),
+            at: i + 1,
+        };
+    }
     let p = piece_at(t, i, single);
     Going {
         w: put_piece(w, out, p),

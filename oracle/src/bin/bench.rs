@@ -5,6 +5,7 @@ use oracle::archive::{self, Entry};
 use oracle::calls::{self, Call, Settings, MOST_DECK, MOST_OUTPUT, MOST_POOL};
 use oracle::deck::{build, Deck, Pooling};
 use oracle::encode::NullStyle;
+use oracle::example;
 use oracle::extremes;
 use oracle::included::{self, EachBelow};
 use oracle::judge;
@@ -93,6 +94,7 @@ fn subjects() -> Vec<Subject> {
             },
         ),
         subject("small: a recipe of a few nodes", ALL, one.clone()),
+        subject("small: the screen of examples", ALL, example::deck()),
         subject("typical: a recipe of 300 nodes", ALL, recipe(7, 300)),
         subject("typical, folded at 80", folded, recipe(7, 300)),
         subject("typical, with comments and tags", ALL, recipe(17, 300)),
