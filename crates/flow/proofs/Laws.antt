@@ -35,8 +35,8 @@ use Rattle.joints.specs.declared.Manner.{Manner}
 use Rattle.joints.specs.declared.Manner.the-variants.{Entry, Key}
 use Rattle.joints.specs.Line.{rankOf, dressed, inKey, keyMark, ending, lineOf, line-key, line-entry}
 use Rattle.joints.specs.Told.{LastOf}
-use Rattle.joints.specs.Entries.{nodeAt, nextAt, lastOf, entryEnd, runEnd, someComments, itemOf, keyOf, entryKey, entryOf, flowRun, linedBefore, linedAfter, linedOf, isNone, linedRun, opening, closing, linedIn, plainIn, groupOf, group-items, group-pairs, items-end, pairs-end}
-use Rattle.flow.specs.Ready.{Ready, Emits, AnyComments, after, further, keyed, inside, at-cursor}
+use Rattle.joints.specs.Entries.{nodeAt, nextAt, lastOf, entryEnd, runEnd, someComments, itemOf, entryKey, entryOf, flowRun, linedBefore, linedAfter, linedOf, isNone, linedRun, opening, closing, linedIn, plainIn, groupOf, group-items, group-pairs, items-end, pairs-end}
+use Rattle.flow.specs.Ready.{Ready, Emits, AnyComments, after, further, keyed, inside}
 
 -- ---- the marks of a pen: in flow, in a key
 
@@ -271,12 +271,12 @@ module _ (s : Settings) (deck pool : Bytes) where
 
   pub key-emits :
       (i : ℕ) (pairs f k : Bool) (c r : Cursor) {P₀ P₁ P₂ : Pen} → pairs ≡ true
-      → Emits s (keyOf deck pool s f k i (nodeAt deck pool c)) P₀ P₁ (c .at) (nextAt deck pool c) r (length deck) → P₂ ≡ put1 P₁ SP
+      → Emits s (lineOf s f k Key i (nodeAt deck pool c)) P₀ P₁ (c .at) (nextAt deck pool c) r (length deck) → P₂ ≡ put1 P₁ SP
       → Emits s (entryKey deck pool s f k i pairs c) P₀ P₂ (c .at) (lastOf deck pool pairs c) r (length deck)
   unfolding ink entryKey lastOf sign puts
   key-emits i pairs f k c r t e b =
       record {
-        drawn = rw t (b ∙ ap (λ (q : Pen). put1 q SP) (e .drawn));
+        drawn = rw (t, ← line-key deck pool s f k i (nodeAt deck pool c)) (b ∙ ap (λ (q : Pen). put1 q SP) (e .drawn));
         next = rw t (e .next);
         onward = e .onward;
         within = e .within;
@@ -291,7 +291,7 @@ module _ (s : Settings) (deck pool : Bytes) where
   pub entry-emits :
       (i : ℕ) (pairs : Bool) (c d r : Cursor) {P₀ P₁ P₂ : Pen}
       → Emits s (entryKey deck pool s (F P₀) (K P₀) i pairs c) P₀ P₁ (c .at) (lastOf deck pool pairs c) d (length deck)
-      → Emits s (itemOf deck pool s (F P₁) (K P₁) i (nodeAt deck pool d)) P₁ P₂ (d .at) (nextAt deck pool d) r (length deck)
+      → Emits s (lineOf s (F P₁) (K P₁) Entry i (nodeAt deck pool d)) P₁ P₂ (d .at) (nextAt deck pool d) r (length deck)
       → Emits s (entryOf deck pool s (F P₀) (K P₀) i pairs c) P₀ P₂ (c .at) (entryEnd deck pool pairs c) r (length deck)
   unfolding ink entryOf entryEnd
   entry-emits i pairs c d r {P₀} {P₁} e f =
@@ -301,21 +301,13 @@ module _ (s : Settings) (deck pool : Bytes) where
       let p = e .onward in
       let q = f .onward in
       record {
-        drawn = f .drawn ∙ z ∙ ap (ink s a) (e .drawn);
+        drawn = f .drawn ∙ line-entry deck pool s (F P₁) (K P₁) i (nodeAt deck pool d) P₁ ∙ z ∙ ap (ink s a) (e .drawn);
         next = f .next ∙ ap (nextAt deck pool) (e .next);
         onward = omega (arith, p, q);
         within = f .within;
       }
 
   -- ---- the node at a cursor
-
-  pub item-whole :
-      (c r : Cursor) (x : Spot) (f k : Bool) (i : ℕ) {P Q : Pen} → c .at ≤ length deck → length deck ≤ 65536 → x ≡ spotAt deck c
-      → Emits s (lineOf s f k Entry i (nodeIn deck pool x)) P Q (x .place) (endIn deck pool x) r (length deck)
-      → Emits s (itemOf deck pool s f k i (nodeAt deck pool c)) P Q (c .at) (nextAt deck pool c) r (length deck)
-  item-whole c r x f k i {P} h b e m =
-      let d = at-cursor s deck pool c r x (lineOf s f k Entry i) h b e m in
-      record { drawn = d .drawn ∙ line-entry deck pool s f k i (nodeAt deck pool c) P; next = d .next; onward = d .onward; within = d .within }
 
   line-whole :
       (m : Manner) (r : Cursor) (x : Spot) (i n l : ℕ) {P₀ P₁ P₂ P₃ P₄ : Pen} → Draws (dressed m (props (broughtIn deck pool x))) P₀ P₁
@@ -348,13 +340,6 @@ module _ (s : Settings) (deck pool : Bytes) where
   line-whole-is m r x i l w w₁ w₂ u v out out₁ out₂ d t a e q z =
       let n : Emits s (contentIn (withKey l (pen w₁ out₁)) i x) (withKey l (pen w₁ out₁)) (pen u out₂) (x .place) (endIn deck pool x) r (length deck) = rw a at e in
       line-whole m r x i (w .key) l d t n refl (keyed-is u v (w .key) out₂ q) z
-
-  -- the key at its cursor
-  pub key-there :
-      (c r : Cursor) (x : Spot) (f k : Bool) (i : ℕ) {P Q : Pen} → c .at ≤ length deck → length deck ≤ 65536 → x ≡ spotAt deck c
-      → Emits s (lineOf s f k Key i (nodeIn deck pool x)) P Q (x .place) (endIn deck pool x) r (length deck)
-      → Emits s (keyOf deck pool s f k i (nodeAt deck pool c)) P Q (c .at) (nextAt deck pool c) r (length deck)
-  key-there c r x f k i h b e m = rw (line-key deck pool s f k i (nodeAt deck pool c)) at (at-cursor s deck pool c r x (lineOf s f k Key i) h b e m)
 
   pub lined-entry-whole :
       (pairs last : Bool) (c to r : Cursor) (x : Spot) (i : ℕ) {P₀ P₁ P₂ P₃ : Pen} → LastOf deck pairs c to → x ≡ spotAt deck to

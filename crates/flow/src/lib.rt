@@ -18,7 +18,7 @@ ghost use Rattle.spot.specs.Spot.{keptIn, broughtIn, kindIn, nodeIn, endIn};
 ghost use Rattle.spot.specs.Good.{Good, countIn};
 ghost use Rattle.atoms.specs.Atoms.{on};
 ghost use Rattle.joints.specs.Line.{lineOf};
-ghost use Rattle.joints.specs.Entries.{nodeAt, nextAt, lastOf, entryEnd, runEnd, itemOf, entryKey, entryOf, flowRun, linedOf, linedRun, linedIn, plainIn, groupOf};
+ghost use Rattle.joints.specs.Entries.{nodeAt, nextAt, lastOf, entryEnd, runEnd, entryKey, entryOf, flowRun, linedOf, linedRun, linedIn, plainIn, groupOf};
 ghost use Rattle.flow.specs.Ready.{Ready, Emits, AnyComments};
 
 // The writer after something was written, and the cursor after it in the deck.
@@ -269,8 +269,7 @@ fn entry_key(
     ensures { λ r. ⌜ Emits settings (entryKey (now (deck .entry)) (now (pool .entry)) settings (on (w .flow)) (on (w .key)) i pairs c) (pen w (now (out .entry))) (pen (r .w) (now (out .exit))) (c .at) (lastOf (now (deck .entry)) (now (pool .entry)) pairs c) (r .next) (length (now (deck .entry))) ⌝ }
 {
     if pairs {
-        let x = spot::spot_at(deck, c);
-        let e = line(w, deck, pool, out, settings, x, i, Manner::Key);
+        let e = entry_node(w, deck, pool, out, settings, c, i, Manner::Key);
         let next = e.next;
         let v1 = e.w.byte(out, b' ');
         return Emitted { w: v1, next };
@@ -294,7 +293,7 @@ fn flow_entry(
 {
     let e = entry_key(w, deck, pool, out, settings, pairs, c, i);
     let next = e.next;
-    item(e.w, deck, pool, out, settings, next, i)
+    entry_node(e.w, deck, pool, out, settings, next, i, Manner::Entry)
 }
 
 // A node on its line: its properties, its content, what ends it. The one caller of `content`, so that the compiler needs no copy of the node for it.
@@ -321,8 +320,8 @@ pub fn line(
     Emitted { w: v1, next }
 }
 
-// The node at a cursor, as an entry.
-fn item(
+// The node at a cursor, on its line.
+fn entry_node(
     w: Writer,
     deck: &[u8],
     pool: &[u8],
@@ -330,10 +329,11 @@ fn item(
     settings: Settings,
     c: Cursor,
     i: usize,
+    manner: Manner,
 ) -> Emitted
     requires { ⌜ Ready settings (now deck) (now pool) (pen w (now out)) (c .at) i ⌝ }
-    ensures { λ r. ⌜ Emits settings (itemOf (now (deck .entry)) (now (pool .entry)) settings (on (w .flow)) (on (w .key)) i (nodeAt (now (deck .entry)) (now (pool .entry)) c)) (pen w (now (out .entry))) (pen (r .w) (now (out .exit))) (c .at) (nextAt (now (deck .entry)) (now (pool .entry)) c) (r .next) (length (now (deck .entry))) ⌝ }
+    ensures { λ r. ⌜ Emits settings (lineOf settings (on (w .flow)) (on (w .key)) manner i (nodeAt (now (deck .entry)) (now (pool .entry)) c)) (pen w (now (out .entry))) (pen (r .w) (now (out .exit))) (c .at) (nextAt (now (deck .entry)) (now (pool .entry)) c) (r .next) (length (now (deck .entry))) ⌝ }
 {
     let x = spot::spot_at(deck, c);
-    line(w, deck, pool, out, settings, x, i, Manner::Entry)
+    line(w, deck, pool, out, settings, x, i, manner)
 }

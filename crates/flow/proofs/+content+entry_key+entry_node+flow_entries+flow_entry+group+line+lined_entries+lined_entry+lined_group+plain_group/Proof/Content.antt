@@ -3,8 +3,8 @@ use Rattle.flow.proofs.Laws.{content-null, content-words, content-alias
 use borrow.Author.Needs.{needs}
 use Prim.Native.Nat.{ℕ}
 use Rattle.flow.proofs.content.Reads as content
-use Rattle.flow.proofs.+content+entry_key+flow_entries+flow_entry+group+item+line+lined_entries+lined_entry+lined_group+plain_group.Lts-content as content-lts
-use Rattle.flow.proofs.+content+entry_key+flow_entries+flow_entry+group+item+line+lined_entries+lined_entry+lined_group+plain_group.Proof.Base.{content-at, content-claims}
+use Rattle.flow.proofs.+content+entry_key+entry_node+flow_entries+flow_entry+group+line+lined_entries+lined_entry+lined_group+plain_group.Lts-content as content-lts
+use Rattle.flow.proofs.+content+entry_key+entry_node+flow_entries+flow_entry+group+line+lined_entries+lined_entry+lined_group+plain_group.Proof.Base.{content-at, content-claims}
 
 -- src/lib.rt:65:40
 pub content-enum-told : (t : ℕ) → content-lts.Need-enum-told (content-claims t) (content-at t) content.Post

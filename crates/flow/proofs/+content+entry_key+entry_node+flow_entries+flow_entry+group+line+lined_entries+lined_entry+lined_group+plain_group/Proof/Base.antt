@@ -5,37 +5,37 @@ use borrow.Fn.Kinds.{In}
 use borrow.Fn.PlainCycle.{Measures, is, falls, and}
 use Rattle.flow.proofs.content.Reads as content
 use Rattle.flow.proofs.content.Kinds as content-kinds
-use Rattle.flow.proofs.+content+entry_key+flow_entries+flow_entry+group+item+line+lined_entries+lined_entry+lined_group+plain_group.Lts-content as content-lts
+use Rattle.flow.proofs.+content+entry_key+entry_node+flow_entries+flow_entry+group+line+lined_entries+lined_entry+lined_group+plain_group.Lts-content as content-lts
 use Rattle.flow.proofs.entry_key.Reads as entry-key
 use Rattle.flow.proofs.entry_key.Kinds as entry-key-kinds
-use Rattle.flow.proofs.+content+entry_key+flow_entries+flow_entry+group+item+line+lined_entries+lined_entry+lined_group+plain_group.Lts-entry_key as entry-key-lts
+use Rattle.flow.proofs.+content+entry_key+entry_node+flow_entries+flow_entry+group+line+lined_entries+lined_entry+lined_group+plain_group.Lts-entry_key as entry-key-lts
 use Rattle.flow.proofs.flow_entries.Reads as flow-entries
 use Rattle.flow.proofs.flow_entries.Kinds as flow-entries-kinds
-use Rattle.flow.proofs.+content+entry_key+flow_entries+flow_entry+group+item+line+lined_entries+lined_entry+lined_group+plain_group.Lts-flow_entries as flow-entries-lts
+use Rattle.flow.proofs.+content+entry_key+entry_node+flow_entries+flow_entry+group+line+lined_entries+lined_entry+lined_group+plain_group.Lts-flow_entries as flow-entries-lts
 use Rattle.flow.proofs.flow_entry.Reads as flow-entry
 use Rattle.flow.proofs.flow_entry.Kinds as flow-entry-kinds
-use Rattle.flow.proofs.+content+entry_key+flow_entries+flow_entry+group+item+line+lined_entries+lined_entry+lined_group+plain_group.Lts-flow_entry as flow-entry-lts
+use Rattle.flow.proofs.+content+entry_key+entry_node+flow_entries+flow_entry+group+line+lined_entries+lined_entry+lined_group+plain_group.Lts-flow_entry as flow-entry-lts
 use Rattle.flow.proofs.group.Reads as group
 use Rattle.flow.proofs.group.Kinds as group-kinds
-use Rattle.flow.proofs.+content+entry_key+flow_entries+flow_entry+group+item+line+lined_entries+lined_entry+lined_group+plain_group.Lts-group as group-lts
-use Rattle.flow.proofs.item.Reads as item
-use Rattle.flow.proofs.item.Kinds as item-kinds
-use Rattle.flow.proofs.+content+entry_key+flow_entries+flow_entry+group+item+line+lined_entries+lined_entry+lined_group+plain_group.Lts-item as item-lts
+use Rattle.flow.proofs.+content+entry_key+entry_node+flow_entries+flow_entry+group+line+lined_entries+lined_entry+lined_group+plain_group.Lts-group as group-lts
+use Rattle.flow.proofs.entry_node.Reads as entry-node
+use Rattle.flow.proofs.entry_node.Kinds as entry-node-kinds
+use Rattle.flow.proofs.+content+entry_key+entry_node+flow_entries+flow_entry+group+line+lined_entries+lined_entry+lined_group+plain_group.Lts-entry_node as entry-node-lts
 use Rattle.flow.proofs.line.Reads as line
 use Rattle.flow.proofs.line.Kinds as line-kinds
-use Rattle.flow.proofs.+content+entry_key+flow_entries+flow_entry+group+item+line+lined_entries+lined_entry+lined_group+plain_group.Lts-line as line-lts
+use Rattle.flow.proofs.+content+entry_key+entry_node+flow_entries+flow_entry+group+line+lined_entries+lined_entry+lined_group+plain_group.Lts-line as line-lts
 use Rattle.flow.proofs.lined_entries.Reads as lined-entries
 use Rattle.flow.proofs.lined_entries.Kinds as lined-entries-kinds
-use Rattle.flow.proofs.+content+entry_key+flow_entries+flow_entry+group+item+line+lined_entries+lined_entry+lined_group+plain_group.Lts-lined_entries as lined-entries-lts
+use Rattle.flow.proofs.+content+entry_key+entry_node+flow_entries+flow_entry+group+line+lined_entries+lined_entry+lined_group+plain_group.Lts-lined_entries as lined-entries-lts
 use Rattle.flow.proofs.lined_entry.Reads as lined-entry
 use Rattle.flow.proofs.lined_entry.Kinds as lined-entry-kinds
-use Rattle.flow.proofs.+content+entry_key+flow_entries+flow_entry+group+item+line+lined_entries+lined_entry+lined_group+plain_group.Lts-lined_entry as lined-entry-lts
+use Rattle.flow.proofs.+content+entry_key+entry_node+flow_entries+flow_entry+group+line+lined_entries+lined_entry+lined_group+plain_group.Lts-lined_entry as lined-entry-lts
 use Rattle.flow.proofs.lined_group.Reads as lined-group
 use Rattle.flow.proofs.lined_group.Kinds as lined-group-kinds
-use Rattle.flow.proofs.+content+entry_key+flow_entries+flow_entry+group+item+line+lined_entries+lined_entry+lined_group+plain_group.Lts-lined_group as lined-group-lts
+use Rattle.flow.proofs.+content+entry_key+entry_node+flow_entries+flow_entry+group+line+lined_entries+lined_entry+lined_group+plain_group.Lts-lined_group as lined-group-lts
 use Rattle.flow.proofs.plain_group.Reads as plain-group
 use Rattle.flow.proofs.plain_group.Kinds as plain-group-kinds
-use Rattle.flow.proofs.+content+entry_key+flow_entries+flow_entry+group+item+line+lined_entries+lined_entry+lined_group+plain_group.Lts-plain_group as plain-group-lts
+use Rattle.flow.proofs.+content+entry_key+entry_node+flow_entries+flow_entry+group+line+lined_entries+lined_entry+lined_group+plain_group.Lts-plain_group as plain-group-lts
 use Rattle.atoms.proofs.put_alias.Reads as put-alias-reads
 use Rattle.atoms.proofs.put_null.Reads as put-null-reads
 use Rattle.atoms.proofs.put_words.Reads as put-words-reads
@@ -73,8 +73,8 @@ abbrev pub μ-flow-entry : Measures 3 flow-entry-kinds.ps ℕ
 abbrev pub μ-group : Measures 3 group-kinds.ps ℕ
 μ-group κs a = 16 * (length (a .1 .0 .now) - a .1 .1 .1 .1 .1 .1 .1 .0 .at) + 14
 
-abbrev pub μ-item : Measures 3 item-kinds.ps ℕ
-μ-item κs a = 16 * (length (a .1 .0 .now) - a .1 .1 .1 .1 .1 .0 .at) + 8
+abbrev pub μ-entry-node : Measures 3 entry-node-kinds.ps ℕ
+μ-entry-node κs a = 16 * (length (a .1 .0 .now) - a .1 .1 .1 .1 .1 .0 .at) + 8
 
 abbrev pub μ-line : Measures 3 line-kinds.ps ℕ
 μ-line κs a = 16 * (length (a .1 .0 .now) - a .1 .1 .1 .1 .1 .0 .place) + 6
@@ -130,11 +130,11 @@ group-at t = and 3 group-kinds.ps (is 3 group-kinds.ps μ-group t) group.Pre
 abbrev pub group-below : ℕ → In 3 group-kinds.ps
 group-below t = and 3 group-kinds.ps (falls 3 group-kinds.ps _<_ μ-group t) group.Pre
 
-abbrev pub item-at : ℕ → In 3 item-kinds.ps
-item-at t = and 3 item-kinds.ps (is 3 item-kinds.ps μ-item t) item.Pre
+abbrev pub entry-node-at : ℕ → In 3 entry-node-kinds.ps
+entry-node-at t = and 3 entry-node-kinds.ps (is 3 entry-node-kinds.ps μ-entry-node t) entry-node.Pre
 
-abbrev pub item-below : ℕ → In 3 item-kinds.ps
-item-below t = and 3 item-kinds.ps (falls 3 item-kinds.ps _<_ μ-item t) item.Pre
+abbrev pub entry-node-below : ℕ → In 3 entry-node-kinds.ps
+entry-node-below t = and 3 entry-node-kinds.ps (falls 3 entry-node-kinds.ps _<_ μ-entry-node t) entry-node.Pre
 
 abbrev pub line-at : ℕ → In 3 line-kinds.ps
 line-at t = and 3 line-kinds.ps (is 3 line-kinds.ps μ-line t) line.Pre
@@ -198,10 +198,8 @@ content-claims t = (
 
 abbrev pub entry-key-claims : ℕ → entry-key-lts.Claims
 entry-key-claims t = (
-  spot-at-reads.Asked,
-  spot-at-reads.Learnt,
-  line-below t,
-  line.Post,
+  entry-node-below t,
+  entry-node.Post,
   byte-reads.Asked,
   byte-reads.Learnt,
 )
@@ -218,8 +216,8 @@ abbrev pub flow-entry-claims : ℕ → flow-entry-lts.Claims
 flow-entry-claims t = (
   entry-key-below t,
   entry-key.Post,
-  item-below t,
-  item.Post,
+  entry-node-below t,
+  entry-node.Post,
 )
 
 abbrev pub group-claims : ℕ → group-lts.Claims
@@ -234,8 +232,8 @@ group-claims t = (
   plain-group.Post,
 )
 
-abbrev pub item-claims : ℕ → item-lts.Claims
-item-claims t = (
+abbrev pub entry-node-claims : ℕ → entry-node-lts.Claims
+entry-node-claims t = (
   spot-at-reads.Asked,
   spot-at-reads.Learnt,
   line-below t,

@@ -5,8 +5,8 @@ use Rattle.flow.proofs.Laws.{Going, flowRuns, start, flow-step, flow-st
 use borrow.Author.Needs.{needs}
 use Prim.Native.Nat.{ℕ}
 use Rattle.flow.proofs.flow_entries.Reads as flow-entries
-use Rattle.flow.proofs.+content+entry_key+flow_entries+flow_entry+group+item+line+lined_entries+lined_entry+lined_group+plain_group.Lts-flow_entries as flow-entries-lts
-use Rattle.flow.proofs.+content+entry_key+flow_entries+flow_entry+group+item+line+lined_entries+lined_entry+lined_group+plain_group.Proof.Base.{flow-entries-at, flow-entries-claims}
+use Rattle.flow.proofs.+content+entry_key+entry_node+flow_entries+flow_entry+group+line+lined_entries+lined_entry+lined_group+plain_group.Lts-flow_entries as flow-entries-lts
+use Rattle.flow.proofs.+content+entry_key+entry_node+flow_entries+flow_entry+group+line+lined_entries+lined_entry+lined_group+plain_group.Proof.Base.{flow-entries-at, flow-entries-claims}
 
 abbrev pub flow-entries-Inv-loop : flow-entries-lts.InvT-loop
 flow-entries-Inv-loop deck pool out₀ settings pairs n i v₀ here₀ left₀ first₀ out v here left first = Going settings deck pool i pairs (flowRuns settings deck pool i pairs (pen v₀ out₀)) (pen v₀ out₀) first₀ left₀ here₀ (pen v out) first left here
