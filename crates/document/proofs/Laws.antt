@@ -31,16 +31,16 @@ use Rattle.parts.specs.Lines.{directed}
 use Rattle.spot.specs.declared.Body.{Body}
 use Rattle.spot.specs.declared.Body.the-variants as body
 use Rattle.spot.specs.declared.Spot.{Spot}
-use Rattle.spot.specs.Spot.{endOf, keptIn, broughtIn, kindIn, endIn, nodeIn, spotAt, tree-value, tree-end}
+use Rattle.spot.specs.Spot.{endOf, keptIn, broughtIn, kindIn, endIn, nodeIn, spotAt, tree-value}
 use Rattle.spot.specs.Good.{Good, countIn, spot-good, few-spot}
 use Rattle.atoms.specs.Atoms.{on}
 use Rattle.choices.specs.Choices.{blockIn, noneIn, includedIn, rootColumnIn, bareRootIn, block-is, included-is, root-column-is, bare-root-is}
 use Rattle.joints.specs.declared.Manner.the-variants.{Value}
 use Rattle.joints.specs.Line.{lineOf}
 use Rattle.joints.specs.Entries.{nodeAt, nextAt}
-use Rattle.flow.specs.Ready.{Emits}
+use Rattle.flow.specs.Ready.{Emits, at-place}
 use Rattle.layout.specs.Calm.{Calm, calm-further}
-use Rattle.layout.specs.Emitting.{calm-line, line-value}
+use Rattle.layout.specs.Emitting.{drawn-first, drawn-last, calm-line, line-value}
 use Rattle.document.specs.Root.{calm-emits}
 use Rattle.document.specs.Pieces.{bomIn, startIn, stopIn, plainIn, opened, separationIn, firstOf, laterOf, blockRoot, lineRoot, rootOf, bom-is, separation-is}
 
@@ -56,20 +56,12 @@ plain-opened deck pool l t =
     let h = eqb-true k 0 (both-right (eqb n 0) _ u) in
     record { drawn = λ s. rw (d, h, not-true m (both-right (eqb n 0 && eqb k 0) _ t)) }
 
-module _ (s : Settings) where
-  -- something drawn before
-  before :
-      (a b : Script) (c r : Cursor) {n l : ℕ} {P Q R : Pen} → Draws a P Q → Emits s b Q R n c r l → Emits s (a >> b) P R n c r l
-  unfolding ink
-  before a b c r d m = record { drawn = m .drawn ∙ ap (ink s b) (d .drawn s); next = m .next; onward = m .onward; within = m .within }
-
-  -- and after
-  pub one-whole :
-      (passed : Bool) (n : Node) (c r : Cursor) {k l : ℕ} {P Q R : Pen} → Emits s (firstOf s passed n) P Q k c r l → Draws (stopIn s) Q R
-      → Emits s (oneDocument s passed n) P R k c r l
-  unfolding ink firstOf oneDocument stopIn
-  one-whole passed n c r m z =
-      record { drawn = z .drawn s ∙ ap (ink s (stopIn s)) (m .drawn); next = m .next; onward = m .onward; within = m .within }
+-- a document, and what the settings ask for after it
+pub one-whole :
+    (s : Settings) (passed : Bool) (n : Node) (c r : Cursor) {k l : ℕ} {P Q R : Pen} → Emits s (firstOf s passed n) P Q k c r l → Draws (stopIn s) Q R
+    → Emits s (oneDocument s passed n) P R k c r l
+unfolding ink firstOf oneDocument stopIn
+one-whole s passed n c r m z = let e = drawn-last (firstOf s passed n) (stopIn s) m z in record { drawn = e .drawn; next = e .next; onward = e .onward; within = e .within }
 
 module _ (s : Settings) (deck pool : Bytes) where
   -- ---- a root
@@ -163,16 +155,7 @@ module _ (s : Settings) (deck pool : Bytes) where
       → (includedIn (x .lead .origin) && not passed) ≡ false → Emits s (bodyIn x) P Q (x .place) (endIn deck pool x) r (length deck)
       → Emits s (rootOf s deck pool passed (spotAt deck c)) P Q (c .at) (nextAt deck pool c) r (length deck)
   unfolding rootOf
-  root-body passed c r x b e t m =
-      let k = b .ready .here in
-      let g = spot-good deck c x k (b .ready .deck-small) e in
-      let o = m .onward in
-      record {
-        drawn = rw (← e, t) (m .drawn);
-        next = m .next ∙ rw (tree-end deck pool c k, ← e);
-        onward = omega (arith, o, g .1);
-        within = m .within;
-      }
+  root-body passed c r x b e t m = rw (← e, t) (at-place s deck pool c r x (bodyIn x) (b .ready .here) (b .ready .deck-small) e m)
 
   -- ---- a document
 
@@ -209,7 +192,7 @@ module _ (s : Settings) (deck pool : Bytes) where
   first-whole passed c r x {P} {Q} k e d m =
       let b : bom s (nodeAt deck pool c) ≡ bomIn (x .lead .lines .marks) = ap (bom s) (node-is c x k e) ∙ bom-is s deck pool x in
       let y : Draws (bom s (nodeAt deck pool c)) P Q = rw b d in
-      before s (bom s (nodeAt deck pool c)) (document s passed (nodeAt deck pool c)) _ r y m
+      drawn-first (bom s (nodeAt deck pool c)) (document s passed (nodeAt deck pool c)) y m
 
   pub later-whole :
       (c r : Cursor) (x : Spot) {P Q R : Pen} → c .at ≤ length deck → x ≡ spotAt deck c → Draws (separationIn (x .lead)) P Q
@@ -219,7 +202,7 @@ module _ (s : Settings) (deck pool : Bytes) where
   later-whole c r x {P} {Q} k e d m =
       let b : separation s (kept (nodeAt deck pool c)) ≡ separationIn (x .lead) = ap (λ (n : Node). separation s (kept n)) (node-is c x k e) ∙ separation-is s deck pool x in
       let y : Draws (separation s (kept (nodeAt deck pool c))) P Q = rw b d in
-      before s (separation s (kept (nodeAt deck pool c))) (document s false (nodeAt deck pool c)) _ r y m
+      drawn-first (separation s (kept (nodeAt deck pool c))) (document s false (nodeAt deck pool c)) y m
 
   -- ---- the documents of a deck
 

@@ -33,7 +33,7 @@ use Rattle.atoms.specs.Atoms.{on, nullIn, commented, freshIn}
 use Rattle.choices.specs.Siblings.{SomeItems, SomePairs}
 use Rattle.joints.specs.declared.Manner.{Manner}
 use Rattle.joints.specs.declared.Manner.the-variants.{Entry, Key}
-use Rattle.joints.specs.Line.{rankOf, dressed, inKey, keyMark, ending, lineOf, line-key, line-entry}
+use Rattle.joints.specs.Line.{rankOf, dressed, keyBy, ending, lineOf, line-key, line-entry}
 use Rattle.joints.specs.Told.{LastOf}
 use Rattle.joints.specs.Entries.{nodeAt, nextAt, lastOf, entryEnd, runEnd, someComments, itemOf, entryKey, entryOf, flowRun, linedBefore, linedAfter, linedOf, isNone, linedRun, opening, closing, linedIn, plainIn, groupOf, group-items, group-pairs, items-end, pairs-end}
 use Rattle.flow.specs.Ready.{Ready, Emits, AnyComments, after, further, keyed, inside}
@@ -66,8 +66,8 @@ unfolding withFlow
 flowed-is w v n out e = rw e
 
 -- the mark inside a node
-mark-on : (m : Manner) (n : ℕ) → on (keyMark m n) ≡ inKey m (on n)
-unfolding on keyMark inKey
+mark-on : (m : Manner) (n : ℕ) → on (keyBy m 1 n) ≡ keyBy m true (on n)
+unfolding on keyBy
 mark-on m n = go (ltb 2 (rankOf m))
   where
     go : (b : Bool) → not (eqb (if b then 1 else n) 0) ≡ (if b then true else not (eqb n 0))
@@ -311,7 +311,7 @@ module _ (s : Settings) (deck pool : Bytes) where
 
   line-whole :
       (m : Manner) (r : Cursor) (x : Spot) (i n l : ℕ) {P₀ P₁ P₂ P₃ P₄ : Pen} → Draws (dressed m (props (broughtIn deck pool x))) P₀ P₁
-      → l ≡ keyMark m (P₀ .w .key) → Emits s (contentIn (withKey l P₁) i x) (withKey l P₁) P₂ (x .place) (endIn deck pool x) r (length deck)
+      → l ≡ keyBy m 1 (P₀ .w .key) → Emits s (contentIn (withKey l P₁) i x) (withKey l P₁) P₂ (x .place) (endIn deck pool x) r (length deck)
       → n ≡ P₀ .w .key → P₃ ≡ withKey n P₂ → Draws (ending m (x .place) (keptIn deck pool x) (kindIn deck pool x)) P₃ P₄
       → Emits s (lineOf s (F P₀) (K P₀) m i (nodeIn deck pool x)) P₀ P₄ (x .place) (endIn deck pool x) r (length deck)
   unfolding ink lineOf content nodeIn
@@ -320,8 +320,8 @@ module _ (s : Settings) (deck pool : Bytes) where
       let a : Script = contentOf s (F P₁) (on l) i (x .place) (keptIn deck pool x) (broughtIn deck pool x) (kindIn deck pool x) in
       let u : P₂ ≡ ink s a (withKey l P₁) = unfold withKey in e .drawn in
       let v : P₃ ≡ ink s a P₁ = q ∙ ap (λ (j : ℕ). withKey j P₂) (h ∙ sym (key-of s (dressed m (props (broughtIn deck pool x))) P₀ P₁ y)) ∙ ap (withKey (P₁ .w .key)) u ∙ ink-in-key s a l P₁ in
-      let a₀ : Script = contentOf s (F P₀) (inKey m (K P₀)) i (x .place) (keptIn deck pool x) (broughtIn deck pool x) (kindIn deck pool x) in
-      let w : ink s a P₁ ≡ ink s a₀ P₁ = let f₁ : F P₁ ≡ F P₀ = flow-kept s (dressed m (props (broughtIn deck pool x))) P₀ P₁ y in let k₁ : on l ≡ inKey m (K P₀) = ap on t ∙ mark-on m (P₀ .w .key) in rw (f₁, k₁) in
+      let a₀ : Script = contentOf s (F P₀) (keyBy m true (K P₀)) i (x .place) (keptIn deck pool x) (broughtIn deck pool x) (kindIn deck pool x) in
+      let w : ink s a P₁ ≡ ink s a₀ P₁ = let f₁ : F P₁ ≡ F P₀ = flow-kept s (dressed m (props (broughtIn deck pool x))) P₀ P₁ y in let k₁ : on l ≡ keyBy m true (K P₀) = ap on t ∙ mark-on m (P₀ .w .key) in rw (f₁, k₁) in
       record {
         drawn = z .drawn s ∙ ap (ink s (ending m (x .place) (keptIn deck pool x) (kindIn deck pool x))) (v ∙ w ∙ ap (ink s a₀) y);
         next = e .next;
@@ -332,7 +332,7 @@ module _ (s : Settings) (deck pool : Bytes) where
   -- the same of writers: the key mark set, and set back
   pub line-whole-is :
       (m : Manner) (r : Cursor) (x : Spot) (i l : ℕ) (w w₁ w₂ u v : Writer) (out out₁ out₂ : Bytes) {P : Pen}
-      → Draws (dressed m (props (broughtIn deck pool x))) (pen w out) (pen w₁ out₁) → l ≡ keyMark m (w .key) → w₂ ≡ withKey l (pen w₁ []) .w
+      → Draws (dressed m (props (broughtIn deck pool x))) (pen w out) (pen w₁ out₁) → l ≡ keyBy m 1 (w .key) → w₂ ≡ withKey l (pen w₁ []) .w
       → Emits s (contentIn (pen w₂ out₁) i x) (pen w₂ out₁) (pen u out₂) (x .place) (endIn deck pool x) r (length deck)
       → v ≡ withKey (w .key) (pen u []) .w → Draws (ending m (x .place) (keptIn deck pool x) (kindIn deck pool x)) (pen v out₂) P
       → Emits s (lineOf s (on (w .flow)) (on (w .key)) m i (nodeIn deck pool x)) (pen w out) P (x .place) (endIn deck pool x) r (length deck)

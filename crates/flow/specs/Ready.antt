@@ -130,16 +130,22 @@ module _ {s : Settings} {deck pool : Bytes} where
         fit = with-key-fit n P (r .fit);
       }
 
--- from the node that was read to the tree at its cursor
-pub at-cursor :
-    (s : Settings) (deck pool : Bytes) (c r : Cursor) (x : Spot) (f : Node → Script) {P Q : Pen} → c .at ≤ length deck → length deck ≤ 65536 → x ≡ spotAt deck c
-    → Emits s (f (nodeIn deck pool x)) P Q (x .place) (endIn deck pool x) r (length deck) → Emits s (f (nodeAt deck pool c)) P Q (c .at) (nextAt deck pool c) r (length deck)
-at-cursor s deck pool c r x f h b e m =
-    let g = spot-good deck c x h b e in
-    let o = m .onward in
-    record {
-      drawn = rw (tree-value deck pool c h, ← e) (m .drawn);
-      next = m .next ∙ rw (tree-end deck pool c h, ← e);
-      onward = omega (arith, o, g .1);
-      within = m .within;
-    }
+-- from the node that was read to the tree at its cursor: from one place to the other, and the script too
+module _ (s : Settings) (deck pool : Bytes) (c r : Cursor) (x : Spot) where
+  pub at-place :
+      (a : Script) {P Q : Pen} → c .at ≤ length deck → length deck ≤ 65536 → x ≡ spotAt deck c
+      → Emits s a P Q (x .place) (endIn deck pool x) r (length deck) → Emits s a P Q (c .at) (nextAt deck pool c) r (length deck)
+  at-place a h b e m =
+      let g = spot-good deck c x h b e in
+      let o = m .onward in
+      record {
+        drawn = m .drawn;
+        next = m .next ∙ rw (tree-end deck pool c h, ← e);
+        onward = omega (arith, o, g .1);
+        within = m .within;
+      }
+
+  pub at-cursor :
+      (f : Node → Script) {P Q : Pen} → c .at ≤ length deck → length deck ≤ 65536 → x ≡ spotAt deck c
+      → Emits s (f (nodeIn deck pool x)) P Q (x .place) (endIn deck pool x) r (length deck) → Emits s (f (nodeAt deck pool c)) P Q (c .at) (nextAt deck pool c) r (length deck)
+  at-cursor f h b e m = rw (tree-value deck pool c h, ← e) (at-place (f (nodeIn deck pool x)) h b e m)

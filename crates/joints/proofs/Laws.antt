@@ -30,7 +30,7 @@ use Rattle.spot.specs.declared.Spot.{Spot}
 use Rattle.spot.specs.Spot.{kindOf, spotAt, nodeIn, tree-value}
 use Rattle.spot.specs.Good.{good-at}
 use Rattle.joints.specs.declared.Manner.{Manner}
-use Rattle.joints.specs.Line.{rankOf, keyMark}
+use Rattle.joints.specs.Line.{rankOf, keyBy}
 use Rattle.joints.specs.Entries.{lastOf, keyHeads, linedBefore}
 use Rattle.joints.specs.Told.{Colon, LastOf}
 
@@ -44,14 +44,14 @@ last-item deck pairs c e h = record { is = λ pool. rw e; onward = omega arith; 
 
 -- ---- the key mark
 
-mark-is : (m : Manner) (k : ℕ) (b : Bool) → ltb 2 (rankOf m) ≡ b → (if b then 1 else k) ≡ keyMark m k
-unfolding keyMark
+mark-is : (m : Manner) (k : ℕ) (b : Bool) → ltb 2 (rankOf m) ≡ b → (if b then 1 else k) ≡ keyBy m 1 k
+unfolding keyBy
 mark-is m k b t = sym (ap (λ (x : Bool). if x then 1 else k) t)
 
-pub in-key : (m : Manner) (n k : ℕ) → n ≡ rankOf m → 2 < n → 1 ≡ keyMark m k
+pub in-key : (m : Manner) (n k : ℕ) → n ≡ rankOf m → 2 < n → 1 ≡ keyBy m 1 k
 in-key m n k e t = mark-is m k true (lt-ltb 2 (rankOf m) (rw e at t))
 
-pub out-of-key : (m : Manner) (n k : ℕ) → n ≡ rankOf m → n ≤ 2 → k ≡ keyMark m k
+pub out-of-key : (m : Manner) (n k : ℕ) → n ≡ rankOf m → n ≤ 2 → k ≡ keyBy m 1 k
 out-of-key m n k e t = mark-is m k false (le-ltb 2 (rankOf m) (rw e at t))
 
 -- ---- the colon

@@ -24,12 +24,9 @@ rankOf Asked = 4
 unfoldable pub dressed : Manner → Script → Script
 dressed m a = if eqb (rankOf m) 2 then nothing else a
 
--- a key, or in one
-unfoldable pub inKey : Manner → Bool → Bool
-inKey m k = if ltb 2 (rankOf m) then true else k
-
-unfoldable pub keyMark : Manner → ℕ → ℕ
-keyMark m n = if ltb 2 (rankOf m) then 1 else n
+-- inside a key there is a mark; in any other node it is as outside. The walk has it as a Bool, the writer as a number
+unfoldable pub keyBy : {A : Type 0} → Manner → A → A → A
+keyBy m inside outside = if ltb 2 (rankOf m) then inside else outside
 
 -- nothing after an entry; the inline comment and the line's end; the colon; the line's end
 unfoldable pub ending : Manner → ℕ → Kept → Kind → Script
@@ -40,14 +37,14 @@ ending m p a k =
     else endLine
 
 unfoldable pub lineOf : Settings → Bool → Bool → Manner → ℕ → Node → Script
-lineOf s flow key m i (node p a b k) = dressed m (props b) >> content s flow (inKey m key) i (node p a b k) >> ending m p a k
+lineOf s flow key m i (node p a b k) = dressed m (props b) >> content s flow (keyBy m true key) i (node p a b k) >> ending m p a k
 
 -- a key, and an entry of a flow collection
 module _ (deck pool : Bytes) (s : Settings) (flow key : Bool) (i : ℕ) where
   pub line-key : (n : Node) → lineOf s flow key Key i n ≡ keyOf deck pool s flow key i n
-  unfolding lineOf keyOf inlineKey dressed inKey ending rankOf
+  unfolding lineOf keyOf inlineKey dressed keyBy ending rankOf
   line-key (node p a b k) = refl
 
   pub line-entry : (n : Node) (P : Pen) → ink s (lineOf s flow key Entry i n) P ≡ ink s (itemOf deck pool s flow key i n) P
-  unfolding ink puts nothing lineOf itemOf brought dressed inKey ending rankOf
+  unfolding ink puts nothing lineOf itemOf brought dressed keyBy ending rankOf
   line-entry (node p a b k) P = refl

@@ -23,7 +23,7 @@ ghost use Rattle.parts.specs.Runs.{Short};
 ghost use Rattle.spot.specs.Spot.{keptIn, broughtIn, kindIn};
 ghost use Rattle.atoms.specs.Atoms.{on};
 ghost use Rattle.joints.specs.Told.{Colon, LastOf};
-ghost use Rattle.joints.specs.Line.{rankOf, dressed, keyMark, ending};
+ghost use Rattle.joints.specs.Line.{rankOf, dressed, keyBy, ending};
 ghost use Rattle.joints.specs.Entries.{keyHeads, linedBefore, linedAfter, opening, closing};
 
 pub fn with_flow(mut w: Writer, n: usize) -> Writer
@@ -109,7 +109,7 @@ pub fn put_dress(
 
 // The key mark inside a node, where it is `mark` outside.
 pub fn key_in(manner: Manner, mark: usize) -> usize
-    ensures { λ r. ⌜ r ≡ keyMark manner mark ⌝ }
+    ensures { λ r. ⌜ r ≡ keyBy manner 1 mark ⌝ }
 {
     if rank_of(manner) > 2 {
         return 1;

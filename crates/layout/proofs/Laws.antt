@@ -8,7 +8,7 @@ use Rattle.definition.specs.Base.{Bytes, spaces}
 use Rattle.definition.specs.Ascii.{LF, SP}
 use Rattle.definition.specs.Deck.{marked, layoutOf}
 use Rattle.definition.specs.Pen.{mark, space, Script, put, _>>_, nothing, newline, indent, sign}
-use Rattle.definition.specs.Walk.{propsCompact, includeLine, belowIntroducer, inlined, valueOf, bare, content}
+use Rattle.definition.specs.Walk.{propsCompact, includeLine, belowIntroducer, valueOf, bare, content}
 use Rattle.definition.specs.declared.Cursor.{Cursor}
 use Rattle.definition.specs.declared.Lines.{Lines}
 use Rattle.definition.specs.declared.Settings.{Settings}
@@ -28,10 +28,10 @@ use Rattle.atoms.specs.Atoms.{on}
 use Rattle.choices.specs.Choices.{bareIn, bare-is, emptyIn}
 use Rattle.joints.specs.declared.Manner.{Manner}
 use Rattle.joints.specs.declared.Manner.the-variants.{Value, Below, Asked}
-use Rattle.joints.specs.Line.{rankOf, dressed, inKey, ending, lineOf}
+use Rattle.joints.specs.Line.{rankOf, dressed, keyBy, ending, lineOf}
 use Rattle.joints.specs.Entries.{nextAt}
 use Rattle.flow.specs.Ready.{Emits}
-use Rattle.layout.specs.Emitting.{drawn-first, emits-yes, emits-no, emits-same, calm-line}
+use Rattle.layout.specs.Emitting.{drawn-first, emits-yes, emits-no, emits-same, calm-line, line-value}
 use Rattle.layout.specs.Stretch.{includeAfter, keyLine}
 
 and-left : (a b : Bool) → (a && b) ≡ true → a ≡ true
@@ -46,20 +46,20 @@ module _ (s : Settings) (deck pool : Bytes) where
   included-whole x c r e d n = record { drawn = both _ _ (of-byte mark SP e) d .drawn s; next = n .tree pool; onward = n .onward; within = n .within }
 
   -- a script, and a node on its line where no flow collection and no key is open
-  calm-after :
+  line-after :
       (a : Script) (m : Manner) (x : Spot) (i : ℕ) (r : Cursor) (P Q R : Pen) → P .w .flow ≡ 0 → P .w .key ≡ 0 → Draws a P Q
       → Emits s (lineOf s (on (Q .w .flow)) (on (Q .w .key)) m i (nodeIn deck pool x)) Q R (x .place) (endIn deck pool x) r (length deck)
       → Emits s (a >> lineOf s false false m i (nodeIn deck pool x)) P R (x .place) (endIn deck pool x) r (length deck)
-  calm-after a m x i r P Q R f k d e =
+  line-after a m x i r P Q R f k d e =
       drawn-first _ _ d (emits-same _ _ (calm-line s m i (Q .w .flow) (Q .w .key) (nodeIn deck pool x) (flow-of s a P Q (d .drawn s) ∙ f) (key-of s a P Q (d .drawn s) ∙ k)) e)
 
   pub below-whole :
       (x : Spot) (i : ℕ) (r : Cursor) (P Q R : Pen) → P .w .flow ≡ 0 → P .w .key ≡ 0 → Draws (belowOpen (x .place) (keptOf deck pool (x .lead)) (broughtOf deck pool (x .lead)) i) P Q
       → Emits s (lineOf s (on (Q .w .flow)) (on (Q .w .key)) Below i (nodeIn deck pool x)) Q R (x .place) (endIn deck pool x) r (length deck)
       → Emits s (belowIntroducer (x .place) (keptIn deck pool x) (broughtIn deck pool x) i (content s false false i (nodeIn deck pool x))) P R (x .place) (endIn deck pool x) r (length deck)
-  unfolding ink puts nothing belowIntroducer belowOpen breaks lineOf dressed inKey ending rankOf nodeIn
+  unfolding ink puts nothing belowIntroducer belowOpen breaks lineOf dressed keyBy ending rankOf nodeIn
   below-whole x i r P Q R f k d e =
-      let m = calm-after (belowOpen (x .place) (keptOf deck pool (x .lead)) (broughtOf deck pool (x .lead)) i) Below x i r P Q R f k d e in
+      let m = line-after (belowOpen (x .place) (keptOf deck pool (x .lead)) (broughtOf deck pool (x .lead)) i) Below x i r P Q R f k d e in
       record { drawn = m .drawn; next = m .next; onward = m .onward; within = m .within }
 
   -- ---- a value
@@ -80,10 +80,11 @@ module _ (s : Settings) (deck pool : Bytes) where
       → n ≡ max (x .lead .lines .pad) 1 → Q ≡ puts (spaces n) P
       → Emits s (lineOf s (on (Q .w .flow)) (on (Q .w .key)) Value i (nodeIn deck pool x)) Q R (x .place) (endIn deck pool x) r (length deck)
       → Emits s (valueIn x i) P R (x .place) (endIn deck pool x) r (length deck)
-  unfolding valueOf keptOf layoutOf indent lineOf dressed inKey ending rankOf inlined nodeIn
+  unfolding valueOf keptOf layoutOf indent nodeIn
   value-inline x i n r b m P Q R f k e t g h o p d =
       emits-no _ _ _ (bare-is s deck pool (x .lead) (x .body) (x .next) ∙ sym e ∙ t)
-      (emits-no _ _ _ (sym g ∙ h) (calm-after (put space (spaces (max (x .lead .lines .pad) 1))) Value x i r P Q R f k (of-puts space _ (rw o at p)) d))
+      (emits-no _ _ _ (sym g ∙ h)
+      (rw (line-value s false false i (x .place) (keptIn deck pool x) (broughtIn deck pool x) (kindIn deck pool x)) at (line-after (put space (spaces (max (x .lead .lines .pad) 1))) Value x i r P Q R f k (of-puts space _ (rw o at p)) d)))
 
   -- a bare node has no children
   bare-end : (b : Body) (c : Cursor) → emptyIn pool b ≡ true → endOf deck pool b c ≡ c
@@ -113,5 +114,5 @@ module _ (s : Settings) (deck pool : Bytes) where
       (x : Spot) (i : ℕ) (r : Cursor) (P Q R : Pen) → P .w .flow ≡ 0 → P .w .key ≡ 0 → Q ≡ put1 P SP
       → Emits s (lineOf s (on (Q .w .flow)) (on (Q .w .key)) Asked i (nodeIn deck pool x)) Q R (x .place) (endIn deck pool x) r (length deck)
       → Emits s (keyLine s i (broughtIn deck pool x) (nodeIn deck pool x)) P R (x .place) (endIn deck pool x) r (length deck)
-  unfolding keyLine sign lineOf dressed inKey ending rankOf nodeIn
-  key-line-whole x i r P Q R f k a e = calm-after (sign SP) Asked x i r P Q R f k (of-byte mark SP a) e
+  unfolding keyLine sign lineOf dressed keyBy ending rankOf nodeIn
+  key-line-whole x i r P Q R f k a e = line-after (sign SP) Asked x i r P Q R f k (of-byte mark SP a) e

@@ -14,7 +14,7 @@ use Rattle.parts.specs.Draws.{Draws}
 use Rattle.atoms.specs.Atoms.{on}
 use Rattle.joints.specs.declared.Manner.{Manner}
 use Rattle.joints.specs.declared.Manner.the-variants.{Value}
-use Rattle.joints.specs.Line.{rankOf, dressed, inKey, ending, lineOf}
+use Rattle.joints.specs.Line.{rankOf, dressed, keyBy, ending, lineOf}
 use Rattle.flow.specs.Ready.{Emits}
 
 module _ {s : Settings} {st : ℕ} {z r : Cursor} {l : ℕ} where
@@ -46,5 +46,5 @@ calm-line s m i f k n e h = rw (e, h)
 
 -- a value, to the end of the line
 pub line-value : (s : Settings) (f k : Bool) (i p : ℕ) (a : Kept) (b : Brought) (t : Kind) → lineOf s f k Value i (node p a b t) ≡ inlined p a b (content s f k i (node p a b t))
-unfolding lineOf dressed inKey ending rankOf inlined
+unfolding lineOf dressed keyBy ending rankOf inlined
 line-value s f k i p a b t = refl
