@@ -41,12 +41,23 @@ fn put_opening(
     parts::put_colon_block(w, deck, pool, out, x.place, x.lead, j)
 }
 
-// The foot comments of a node after what was emitted of it.
-fn with_foots(e: Emitted, deck: &[u8], pool: &[u8], out: &mut [u8], x: Spot, k: usize) -> Emitted
+// The foot comments of a node after what was emitted of it. Most nodes have none: then what was emitted is handed on field by field.
+pub fn with_foots(
+    e: Emitted,
+    deck: &[u8],
+    pool: &[u8],
+    out: &mut [u8],
+    x: Spot,
+    k: usize,
+) -> Emitted
     requires { ⌜ (length (now out) < 2 ^ 62) × Short (x .lead) ⌝ }
     ensures { λ r. ⌜ Footed (now (deck .entry)) (now (pool .entry)) x k (pen (e .w) (now (out .entry))) (pen (r .w) (now (out .exit))) (e .next) (r .next) ⌝ }
 {
     let next = e.next;
+    if x.lead.foots.count == 0 {
+        let w = e.w.anew();
+        return Emitted { w, next };
+    }
     let w = parts::put_repeated(e.w, deck, pool, out, x.lead, Entries::Foots, k);
     Emitted { w, next }
 }
@@ -106,7 +117,7 @@ fn put_rows(
     let mut first = true;
     while left > 0 {
         let e = put_row(v, deck, pool, out, settings, pairs, here, i, lead, first);
-        v = e.w;
+        v = e.w.anew();
         here = e.next;
         lead = true;
         first = false;
@@ -136,7 +147,8 @@ fn put_row(
     if pairs {
         let e = put_key(w1, deck, pool, out, settings, x, i, first);
         let next = e.next;
-        return put_value(e.w, deck, pool, out, settings, next, i);
+        let v = e.w.anew();
+        return put_value(v, deck, pool, out, settings, next, i);
     }
     put_dash(w1, deck, pool, out, settings, x, c, i)
 }
@@ -210,7 +222,11 @@ fn put_value(
         return put_under(w, deck, pool, out, settings, x, j, j, false);
     }
     let j = i + choices::step_of(settings);
-    layout::put_value(w, deck, pool, out, settings, x, j)
+    if layout::is_beside(settings, pool, x) {
+        let w1 = layout::put_pad(w, out, x.lead.lines.pad);
+        return flow::line(w1, deck, pool, out, settings, x, j, Manner::Value);
+    }
+    layout::put_apart(w, deck, pool, out, settings, x, j)
 }
 
 // `emit_sequence_item_body` of the node at a cursor, its dash at column i.
@@ -235,7 +251,12 @@ fn put_dash(
     if choices::is_block(body) {
         return put_dashed(w1, deck, pool, out, settings, x, i);
     }
-    layout::put_value(w1, deck, pool, out, settings, x, i + 2)
+    let j = i + 2;
+    if layout::is_beside(settings, pool, x) {
+        let w2 = layout::put_pad(w1, out, x.lead.lines.pad);
+        return flow::line(w2, deck, pool, out, settings, x, j, Manner::Value);
+    }
+    layout::put_apart(w1, deck, pool, out, settings, x, j)
 }
 
 // A block collection after the dash at column i: on its line, or below it.

@@ -8,7 +8,7 @@ use mathlib.Core.List.{[], _∷_}
 use lib.ListN.{length, getD}
 use lib.Dec.{eqb}
 use borrow.Author.Tests.{eqb-true, le-leb, lt-leb, not-true}
-use Rattle.definition.specs.Base.{Bytes}
+use Rattle.definition.specs.Base.{Bytes, if_then_else_}
 use Rattle.definition.specs.Settings.{stepOf}
 use Rattle.definition.specs.Deck.{marked, layoutOf}
 use Rattle.definition.specs.Tree.{Node, kept}
@@ -41,8 +41,9 @@ use Rattle.joints.specs.Entries.{nodeAt, nextAt}
 use Rattle.flow.specs.Ready.{Emits, at-place}
 use Rattle.layout.specs.Calm.{Calm, calm-further}
 use Rattle.layout.specs.Emitting.{drawn-first, drawn-last, calm-line, line-value}
+use Rattle.block.specs.Rows.{Footed}
 use Rattle.document.specs.Root.{calm-emits}
-use Rattle.document.specs.Pieces.{bomIn, startIn, stopIn, plainIn, opened, separationIn, firstOf, laterOf, blockRoot, lineRoot, rootOf, bom-is, separation-is}
+use Rattle.document.specs.Pieces.{startIn, stopIn, plainIn, opened, frontIn, placedOf, blockRoot, lineRoot, rootOf, front-is}
 
 -- nothing stands before the root
 pub plain-opened : (deck pool : Bytes) (l : Lead) {P : Pen} → plainIn l ≡ true → Draws (opened deck pool l) P P
@@ -58,10 +59,10 @@ plain-opened deck pool l t =
 
 -- a document, and what the settings ask for after it
 pub one-whole :
-    (s : Settings) (passed : Bool) (n : Node) (c r : Cursor) {k l : ℕ} {P Q R : Pen} → Emits s (firstOf s passed n) P Q k c r l → Draws (stopIn s) Q R
+    (s : Settings) (passed : Bool) (n : Node) (c r : Cursor) {k l : ℕ} {P Q R : Pen} → Emits s (placedOf s true passed n) P Q k c r l → Draws (stopIn s) Q R
     → Emits s (oneDocument s passed n) P R k c r l
-unfolding ink firstOf oneDocument stopIn
-one-whole s passed n c r m z = let e = drawn-last (firstOf s passed n) (stopIn s) m z in record { drawn = e .drawn; next = e .next; onward = e .onward; within = e .within }
+unfolding ink placedOf oneDocument stopIn
+one-whole s passed n c r m z = let e = drawn-last (placedOf s true passed n) (stopIn s) m z in record { drawn = e .drawn; next = e .next; onward = e .onward; within = e .within }
 
 module _ (s : Settings) (deck pool : Bytes) where
   -- ---- a root
@@ -144,18 +145,18 @@ module _ (s : Settings) (deck pool : Bytes) where
       (calm-further b (x .place) (g .1) (g .2), g .0, few-spot deck h c x k e)
 
   pub root-directed :
-      (passed : Bool) (c r : Cursor) (x : Spot) {P Q : Pen} → x ≡ spotAt deck c → (includedIn (x .lead .origin) && not passed) ≡ true
+      (passed : Bool) (c r : Cursor) (x : Spot) {P Q : Pen} → (includedIn (x .lead .origin) && not passed) ≡ true
       → Draws (directed (x .place) (originOf deck pool (x .lead .origin)) (remarkOf deck pool (x .lead .remark))) P Q → Ends deck c r
-      → Emits s (rootOf s deck pool passed (spotAt deck c)) P Q (c .at) (nextAt deck pool c) r (length deck)
+      → Emits s (rootOf s deck pool passed x) P Q (c .at) (nextAt deck pool c) r (length deck)
   unfolding rootOf includeLine directed keptOf
-  root-directed passed c r x e t d n = record { drawn = rw (← e, t) (d .drawn s); next = n .tree pool; onward = n .onward; within = n .within }
+  root-directed passed c r x t d n = record { drawn = rw t (d .drawn s); next = n .tree pool; onward = n .onward; within = n .within }
 
   pub root-body :
       (passed : Bool) (c r : Cursor) (x : Spot) {P Q : Pen} → Calm s deck pool P (c .at) 0 → x ≡ spotAt deck c
       → (includedIn (x .lead .origin) && not passed) ≡ false → Emits s (bodyIn x) P Q (x .place) (endIn deck pool x) r (length deck)
-      → Emits s (rootOf s deck pool passed (spotAt deck c)) P Q (c .at) (nextAt deck pool c) r (length deck)
+      → Emits s (rootOf s deck pool passed x) P Q (c .at) (nextAt deck pool c) r (length deck)
   unfolding rootOf
-  root-body passed c r x b e t m = rw (← e, t) (at-place s deck pool c r x (bodyIn x) (b .ready .here) (b .ready .deck-small) e m)
+  root-body passed c r x b e t m = rw t (at-place s deck pool c r x (bodyIn x) (b .ready .here) (b .ready .deck-small) e m)
 
   -- ---- a document
 
@@ -169,40 +170,39 @@ module _ (s : Settings) (deck pool : Bytes) where
   unfolding document nodeIn keptOf layoutOf startIn rootOf
   document-is passed x = rw (included-is deck pool (x .lead))
 
-  pub document-whole :
+  document-whole :
       (passed : Bool) (c r : Cursor) (x : Spot) {P₀ P₁ P₂ P₃ : Pen} → c .at ≤ length deck → x ≡ spotAt deck c
       → Draws (opened deck pool (x .lead)) P₀ P₁
-      → Emits s (rootOf s deck pool passed (spotAt deck c)) P₁ P₂ (c .at) (nextAt deck pool c) r (length deck)
+      → Emits s (rootOf s deck pool passed x) P₁ P₂ (c .at) (nextAt deck pool c) r (length deck)
       → Draws (foots (keptIn deck pool x) 0) P₂ P₃
       → Emits s (document s passed (nodeAt deck pool c)) P₀ P₃ (c .at) (nextAt deck pool c) r (length deck)
   unfolding ink opened
   document-whole passed c r x k e d m z =
       record {
-        drawn = rw (node-is c x k e, document-is passed x) (z .drawn s ∙ ap (ink s (foots (keptIn deck pool x) 0)) (rw (← e) at (m .drawn) ∙ ap (ink s (rootOf s deck pool passed x)) (d .drawn s)));
+        drawn = rw (node-is c x k e, document-is passed x) (z .drawn s ∙ ap (ink s (foots (keptIn deck pool x) 0)) (m .drawn ∙ ap (ink s (rootOf s deck pool passed x)) (d .drawn s)));
         next = m .next;
         onward = m .onward;
         within = m .within;
       }
 
-  pub first-whole :
-      (passed : Bool) (c r : Cursor) (x : Spot) {P Q R : Pen} → c .at ≤ length deck → x ≡ spotAt deck c → Draws (bomIn (x .lead .lines .marks)) P Q
-      → Emits s (document s passed (nodeAt deck pool c)) Q R (c .at) (nextAt deck pool c) r (length deck)
-      → Emits s (firstOf s passed (nodeAt deck pool c)) P R (c .at) (nextAt deck pool c) r (length deck)
-  unfolding firstOf
-  first-whole passed c r x {P} {Q} k e d m =
-      let b : bom s (nodeAt deck pool c) ≡ bomIn (x .lead .lines .marks) = ap (bom s) (node-is c x k e) ∙ bom-is s deck pool x in
-      let y : Draws (bom s (nodeAt deck pool c)) P Q = rw b d in
-      drawn-first (bom s (nodeAt deck pool c)) (document s passed (nodeAt deck pool c)) y m
+  pub document-footed :
+      (passed : Bool) (c d r : Cursor) (x : Spot) {P₀ P₁ P₂ P₃ : Pen} → c .at ≤ length deck → x ≡ spotAt deck c
+      → Draws (opened deck pool (x .lead)) P₀ P₁
+      → Emits s (rootOf s deck pool passed x) P₁ P₂ (c .at) (nextAt deck pool c) d (length deck)
+      → Footed deck pool x 0 P₂ P₃ d r
+      → Emits s (document s passed (nodeAt deck pool c)) P₀ P₃ (c .at) (nextAt deck pool c) r (length deck)
+  document-footed passed c d r x k e o m f = document-whole passed c r x k e o (rw (← f .next) at m) (f .drawn)
 
-  pub later-whole :
-      (c r : Cursor) (x : Spot) {P Q R : Pen} → c .at ≤ length deck → x ≡ spotAt deck c → Draws (separationIn (x .lead)) P Q
-      → Emits s (document s false (nodeAt deck pool c)) Q R (c .at) (nextAt deck pool c) r (length deck)
-      → Emits s (laterOf s (nodeAt deck pool c)) P R (c .at) (nextAt deck pool c) r (length deck)
-  unfolding laterOf kept nodeIn
-  later-whole c r x {P} {Q} k e d m =
-      let b : separation s (kept (nodeAt deck pool c)) ≡ separationIn (x .lead) = ap (λ (n : Node). separation s (kept n)) (node-is c x k e) ∙ separation-is s deck pool x in
-      let y : Draws (separation s (kept (nodeAt deck pool c))) P Q = rw b d in
-      drawn-first (separation s (kept (nodeAt deck pool c))) (document s false (nodeAt deck pool c)) y m
+  -- with what stands before it
+  pub placed-whole :
+      (first passed : Bool) (c r : Cursor) (x : Spot) {P Q R : Pen} → c .at ≤ length deck → x ≡ spotAt deck c → Draws (frontIn first (x .lead)) P Q
+      → Emits s (document s passed (nodeAt deck pool c)) Q R (c .at) (nextAt deck pool c) r (length deck)
+      → Emits s (placedOf s first passed (nodeAt deck pool c)) P R (c .at) (nextAt deck pool c) r (length deck)
+  unfolding placedOf
+  placed-whole first passed c r x {P} {Q} k e d m =
+      let f : Node → Script = λ n. if first then bom s n else separation s (kept n) in
+      let y : Draws (f (nodeAt deck pool c)) P Q = rw (ap f (node-is c x k e) ∙ front-is s deck pool first x) d in
+      drawn-first (f (nodeAt deck pool c)) (document s passed (nodeAt deck pool c)) y m
 
   -- ---- the documents of a deck
 
@@ -231,15 +231,15 @@ module _ (s : Settings) (deck pool : Bytes) where
 
   pub rest-turn :
       (P₀ : Pen) (left₀ : ℕ) (here₀ : Cursor) (P Q : Pen) (left : ℕ) (here next : Cursor) → Pending P₀ left₀ here₀ P left here → 0 < left → here .at < length deck
-      → Emits s (laterOf s (nodeAt deck pool here)) P Q (here .at) (nextAt deck pool here) next (length deck)
+      → Emits s (placedOf s false false (nodeAt deck pool here)) P Q (here .at) (nextAt deck pool here) next (length deck)
       → Pending P₀ left₀ here₀ Q (left - 1) next
-  unfolding ink laterDocuments laterOf
+  unfolding ink laterDocuments placedOf
   rest-turn P₀ left₀ here₀ P Q left here next g l h m =
       let t : ink s (restOf left here) P ≡ ink s (restOf (left - 1) (nextAt deck pool here)) Q = rw (trees-first left here l h, m .drawn) in
       let u : ink s (restOf (left - 1) next) Q ≡ ink s (restOf (left - 1) (nextAt deck pool here)) Q = ap (λ (d : Cursor). ink s (restOf (left - 1) d) Q) (m .next) in
       record {
         same = u ∙ sym t ∙ g .same;
-        size = length-of s (laterOf s (nodeAt deck pool here)) P Q (m .drawn) ∙ g .size;
+        size = length-of s (placedOf s false false (nodeAt deck pool here)) P Q (m .drawn) ∙ g .size;
         calm = calm-emits (g .calm) m;
       }
 
@@ -261,9 +261,9 @@ module _ (s : Settings) (deck pool : Bytes) where
 
   pub all-whole :
       (c r : Cursor) {P Q R : Pen} → c .at ≡ 0 → 0 < length deck
-      → Emits s (firstOf s false (nodeAt deck pool c)) P Q (c .at) (nextAt deck pool c) r (length deck)
+      → Emits s (placedOf s true false (nodeAt deck pool c)) P Q (c .at) (nextAt deck pool c) r (length deck)
       → R ≡ ink s (restOf (length deck - 1) r) Q → R ≡ ink s (allDocuments s (treesOf deck pool)) P
-  unfolding ink allDocuments firstOf treesOf
+  unfolding ink allDocuments placedOf treesOf
   all-whole c r {P} {Q} {R} z l m h =
       let t : treesFrom deck pool (length deck) c ≡ nodeAt deck pool c ∷ treesFrom deck pool (length deck - 1) (nextAt deck pool c) = trees-first (length deck) c l (omega (arith, z, l)) in
       let u : treesOf deck pool ≡ nodeAt deck pool c ∷ treesFrom deck pool (length deck - 1) (nextAt deck pool c) = ap (treesFrom deck pool (length deck)) (start z) ∙ t in

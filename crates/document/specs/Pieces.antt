@@ -46,13 +46,14 @@ plainIn l = eqb (l .directives .count) 0 && eqb (l .heads .count) 0 && not (mark
 unfoldable pub separationIn : Lead → Script
 separationIn l = if on (l .directives .count) then dots else if marked (l .lines .marks) 32 then nothing else dashes
 
-module _ (s : Settings) where
-  -- a document that may begin with a byte order mark, and one that follows another
-  unfoldable pub firstOf : Bool → Node → Script
-  firstOf passed n = bom s n >> document s passed n
+-- what stands before a document, the first one or another
+unfoldable pub frontIn : Bool → Lead → Script
+frontIn first l = if first then bomIn (l .lines .marks) else separationIn l
 
-  unfoldable pub laterOf : Node → Script
-  laterOf n = separation s (kept n) >> document s false n
+module _ (s : Settings) where
+  -- a document with what stands before it
+  unfoldable pub placedOf : Bool → Bool → Node → Script
+  placedOf first passed n = (if first then bom s n else separation s (kept n)) >> document s passed n
 
   module _ (deck pool : Bytes) where
     -- a root that is a block collection, a root on one line, and any root
@@ -74,11 +75,7 @@ unfolding isNil runFrom on
 some-run e s zero c = refl
 some-run e s (suc n) c = rw (ne-eqb (suc n) 0 (λ e. absurd (omega arith)))
 
-module _ (s : Settings) (deck pool : Bytes) (x : Spot) where
-  pub bom-is : bom s (nodeIn deck pool x) ≡ bomIn (x .lead .lines .marks)
-  unfolding bom nodeIn kept keptOf layoutOf bomIn
-  bom-is = refl
-
-  pub separation-is : separation s (keptOf deck pool (x .lead)) ≡ separationIn (x .lead)
-  unfolding separation keptOf layoutOf separationIn
-  separation-is = rw some-run
+pub front-is : (s : Settings) (deck pool : Bytes) (first : Bool) (x : Spot) → (if first then bom s (nodeIn deck pool x) else separation s (kept (nodeIn deck pool x))) ≡ frontIn first (x .lead)
+unfolding bom separation nodeIn kept keptOf layoutOf bomIn separationIn frontIn
+front-is s deck pool true x = refl
+front-is s deck pool false x = rw some-run

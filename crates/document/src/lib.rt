@@ -12,7 +12,7 @@ ghost use mathlib.Core.Path.{_≡_};
 ghost use Prim.Native.Nat.{_<_, _^_};
 ghost use mathlib.Core.Bool.{not, _&&_};
 ghost use lib.ListN.{length};
-ghost use Rattle.definition.specs.Document.{dashes, dots, document, oneDocument, allDocuments, laterDocuments};
+ghost use Rattle.definition.specs.Document.{dashes, dots, oneDocument, allDocuments, laterDocuments};
 ghost use Rattle.node.specs.Total.{treesFrom, treesOf};
 ghost use Rattle.pen.specs.Pen.{pen, ink, ended};
 ghost use Rattle.pen.specs.Shown.{fresh};
@@ -24,7 +24,7 @@ ghost use Rattle.choices.specs.Choices.{includedIn};
 ghost use Rattle.joints.specs.Entries.{nodeAt, nextAt};
 ghost use Rattle.flow.specs.Ready.{Emits};
 ghost use Rattle.layout.specs.Calm.{Calm};
-ghost use Rattle.document.specs.Pieces.{bomIn, startIn, stopIn, plainIn, opened, separationIn, firstOf, laterOf, blockRoot, lineRoot, rootOf};
+ghost use Rattle.document.specs.Pieces.{bomIn, startIn, stopIn, plainIn, opened, separationIn, frontIn, placedOf, blockRoot, lineRoot, rootOf};
 
 fn put_dashes(w: Writer, out: &mut [u8]) -> Writer
     requires { ⌜ length (now out) < 2 ^ 62 ⌝ }
@@ -159,7 +159,7 @@ fn is_directed(origin: Origin, passed: bool) -> bool
     false
 }
 
-// The root at a cursor: its include's line, or its body.
+// The root at a cursor, as it was read: its include's line, or its body.
 fn put_root(
     w: Writer,
     deck: &[u8],
@@ -167,12 +167,12 @@ fn put_root(
     out: &mut [u8],
     settings: Settings,
     c: Cursor,
+    x: Spot,
     passed: bool,
 ) -> Emitted
-    requires { ⌜ Calm settings (now deck) (now pool) (pen w (now out)) (c .at) 0 ⌝ }
-    ensures { λ r. ⌜ Emits settings (rootOf settings (now (deck .entry)) (now (pool .entry)) passed (spotAt (now (deck .entry)) c)) (pen w (now (out .entry))) (pen (r .w) (now (out .exit))) (c .at) (nextAt (now (deck .entry)) (now (pool .entry)) c) (r .next) (length (now (deck .entry))) ⌝ }
+    requires { ⌜ (Calm settings (now deck) (now pool) (pen w (now out)) (c .at) 0) × (x ≡ spotAt (now deck) c) ⌝ }
+    ensures { λ r. ⌜ Emits settings (rootOf settings (now (deck .entry)) (now (pool .entry)) passed x) (pen w (now (out .entry))) (pen (r .w) (now (out .exit))) (c .at) (nextAt (now (deck .entry)) (now (pool .entry)) c) (r .next) (length (now (deck .entry))) ⌝ }
 {
-    let x = spot::spot_at(deck, c);
     let body = x.body;
     if is_directed(x.lead.origin, passed) {
         let v = parts::put_include_line(w, deck, pool, out, x.place, x.lead);
@@ -197,7 +197,18 @@ fn put_root(
     put_inlined(w, deck, pool, out, settings, x)
 }
 
-// `emit_document`, of the tree at a cursor.
+// What stands before a document: before the first one a byte order mark, before another what separates it from the one before it.
+fn put_front(w: Writer, out: &mut [u8], lead: Lead, first: bool) -> Writer
+    requires { ⌜ length (now out) < 2 ^ 62 ⌝ }
+    ensures { λ r. ⌜ Draws (frontIn first lead) (pen w (now (out .entry))) (pen r (now (out .exit))) ⌝ }
+{
+    if first {
+        return put_bom(w, out, lead.lines.marks);
+    }
+    put_separation(w, out, lead)
+}
+
+// `emit_document`, of the tree at a cursor, with what stands before it. The node is read here and nowhere else, so that it is not copied.
 fn put_document(
     w: Writer,
     deck: &[u8],
@@ -205,35 +216,17 @@ fn put_document(
     out: &mut [u8],
     settings: Settings,
     c: Cursor,
-    x: Spot,
     passed: bool,
-) -> Emitted
-    requires { ⌜ (Calm settings (now deck) (now pool) (pen w (now out)) (c .at) 0) × (x ≡ spotAt (now deck) c) ⌝ }
-    ensures { λ r. ⌜ Emits settings (document settings passed (nodeAt (now (deck .entry)) (now (pool .entry)) c)) (pen w (now (out .entry))) (pen (r .w) (now (out .exit))) (c .at) (nextAt (now (deck .entry)) (now (pool .entry)) c) (r .next) (length (now (deck .entry))) ⌝ }
-{
-    let w1 = put_opening(w, deck, pool, out, x.lead);
-    let e = put_root(w1, deck, pool, out, settings, c, passed);
-    let next = e.next;
-    let v1 = parts::put_repeated(e.w, deck, pool, out, x.lead, Entries::Foots, 0);
-    Emitted { w: v1, next }
-}
-
-// A document that may begin with a byte order mark.
-fn put_first(
-    w: Writer,
-    deck: &[u8],
-    pool: &[u8],
-    out: &mut [u8],
-    settings: Settings,
-    c: Cursor,
-    passed: bool,
+    first: bool,
 ) -> Emitted
     requires { ⌜ Calm settings (now deck) (now pool) (pen w (now out)) (c .at) 0 ⌝ }
-    ensures { λ r. ⌜ Emits settings (firstOf settings passed (nodeAt (now (deck .entry)) (now (pool .entry)) c)) (pen w (now (out .entry))) (pen (r .w) (now (out .exit))) (c .at) (nextAt (now (deck .entry)) (now (pool .entry)) c) (r .next) (length (now (deck .entry))) ⌝ }
+    ensures { λ r. ⌜ Emits settings (placedOf settings first passed (nodeAt (now (deck .entry)) (now (pool .entry)) c)) (pen w (now (out .entry))) (pen (r .w) (now (out .exit))) (c .at) (nextAt (now (deck .entry)) (now (pool .entry)) c) (r .next) (length (now (deck .entry))) ⌝ }
 {
     let x = spot::spot_at(deck, c);
-    let w1 = put_bom(w, out, x.lead.lines.marks);
-    put_document(w1, deck, pool, out, settings, c, x, passed)
+    let w1 = put_front(w, out, x.lead, first);
+    let w2 = put_opening(w1, deck, pool, out, x.lead);
+    let e = put_root(w2, deck, pool, out, settings, c, x, passed);
+    block::with_foots(e, deck, pool, out, x, 0)
 }
 
 // `emit_roundtrip_with` and `emit_roundtrip_dump`, of the tree at a cursor; `passed`: its include is passed over.
@@ -249,27 +242,10 @@ fn put_one(
     requires { ⌜ Calm settings (now deck) (now pool) (pen w (now out)) (c .at) 0 ⌝ }
     ensures { λ r. ⌜ Emits settings (oneDocument settings passed (nodeAt (now (deck .entry)) (now (pool .entry)) c)) (pen w (now (out .entry))) (pen (r .w) (now (out .exit))) (c .at) (nextAt (now (deck .entry)) (now (pool .entry)) c) (r .next) (length (now (deck .entry))) ⌝ }
 {
-    let e = put_first(w, deck, pool, out, settings, c, passed);
+    let e = put_document(w, deck, pool, out, settings, c, passed, true);
     let next = e.next;
     let v1 = put_stop(e.w, out, settings);
     Emitted { w: v1, next }
-}
-
-// A document that follows another.
-fn put_later(
-    w: Writer,
-    deck: &[u8],
-    pool: &[u8],
-    out: &mut [u8],
-    settings: Settings,
-    c: Cursor,
-) -> Emitted
-    requires { ⌜ Calm settings (now deck) (now pool) (pen w (now out)) (c .at) 0 ⌝ }
-    ensures { λ r. ⌜ Emits settings (laterOf settings (nodeAt (now (deck .entry)) (now (pool .entry)) c)) (pen w (now (out .entry))) (pen (r .w) (now (out .exit))) (c .at) (nextAt (now (deck .entry)) (now (pool .entry)) c) (r .next) (length (now (deck .entry))) ⌝ }
-{
-    let x = spot::spot_at(deck, c);
-    let w1 = put_separation(w, out, x.lead);
-    put_document(w1, deck, pool, out, settings, c, x, false)
 }
 
 // The documents from a cursor to the deck's end, n of them at most.
@@ -292,7 +268,7 @@ fn put_rest(
         if deck.len() <= here.at {
             return v;
         }
-        let e = put_later(v, deck, pool, out, settings, here);
+        let e = put_document(v, deck, pool, out, settings, here, false, false);
         v = e.w;
         here = e.next;
         left -= 1;
@@ -310,7 +286,7 @@ fn put_all(w: Writer, deck: &[u8], pool: &[u8], out: &mut [u8], settings: Settin
         return w;
     }
     let c = Cursor { at: 0 };
-    let e = put_first(w, deck, pool, out, settings, c, false);
+    let e = put_document(w, deck, pool, out, settings, c, false, true);
     let next = e.next;
     put_rest(e.w, deck, pool, out, settings, next, n - 1)
 }

@@ -36,7 +36,7 @@ use Rattle.joints.specs.declared.Manner.the-variants.{Entry, Key}
 use Rattle.joints.specs.Line.{rankOf, dressed, keyBy, ending, lineOf, line-key, line-entry}
 use Rattle.joints.specs.Told.{LastOf}
 use Rattle.joints.specs.Entries.{nodeAt, nextAt, lastOf, entryEnd, runEnd, someComments, itemOf, entryKey, entryOf, flowRun, linedBefore, linedAfter, linedOf, isNone, linedRun, opening, closing, linedIn, plainIn, groupOf, group-items, group-pairs, items-end, pairs-end}
-use Rattle.flow.specs.Ready.{Ready, Emits, AnyComments, after, further, keyed, inside}
+use Rattle.flow.specs.Ready.{Ready, Emits, AnyComments, after, further, keyed, inside, at-cursor}
 
 -- ---- the marks of a pen: in flow, in a key
 
@@ -306,6 +306,16 @@ module _ (s : Settings) (deck pool : Bytes) where
         onward = omega (arith, p, q);
         within = f .within;
       }
+
+  -- the same where the item or the value is read already
+  pub entry-read :
+      (i : ℕ) (pairs : Bool) (c to d r : Cursor) (x : Spot) {P₀ P₁ P₂ : Pen} → length deck ≤ 65536 → LastOf deck pairs c to → x ≡ spotAt deck to
+      → Emits s (entryKey deck pool s (F P₀) (K P₀) i pairs c) P₀ P₁ (c .at) (lastOf deck pool pairs c) d (length deck)
+      → Emits s (lineOf s (F P₁) (K P₁) Entry i (nodeIn deck pool x)) P₁ P₂ (x .place) (endIn deck pool x) r (length deck)
+      → Emits s (entryOf deck pool s (F P₀) (K P₀) i pairs c) P₀ P₂ (c .at) (entryEnd deck pool pairs c) r (length deck)
+  entry-read i pairs c to d r x {P₁ = P₁} b h t e f =
+      let q : d ≡ to = e .next ∙ sym (h .is pool) in
+      entry-emits i pairs c to r (rw q at e) (at-cursor s deck pool to r x (lineOf s (F P₁) (K P₁) Entry i) (h .within) b t f)
 
   -- ---- the node at a cursor
 

@@ -248,7 +248,8 @@ fn lined_entry(
     let end = joints::last_of(deck, pairs, c);
     let x = spot::spot_at(deck, end);
     let w1 = joints::put_lined_before(w, deck, pool, out, pairs, c, x.lead, i);
-    let e = flow_entry(w1, deck, pool, out, settings, pairs, c, i);
+    let k = entry_key(w1, deck, pool, out, settings, pairs, c, i);
+    let e = line(k.w, deck, pool, out, settings, x, i, Manner::Entry);
     let next = e.next;
     let v1 = joints::put_lined_after(e.w, deck, pool, out, last, x.place, x.lead.remark);
     Emitted { w: v1, next }

@@ -1,13 +1,14 @@
 -- Laws of lines of block layout.
 -- Assumes nothing.
 use mathlib.Core.Path.{_≡_, refl, sym, _∙_}
-use Prim.Native.Nat.{ℕ, max}
-use mathlib.Core.Bool.{Bool, true, false, true≢false, _&&_}
+use Prim.Native.Nat.{ℕ, _<_, _≤_, max}
+use native.Mathlib.Omega.{arith}
+use mathlib.Core.Bool.{Bool, true, false, true≢false, not, _&&_}
 use lib.ListN.{length}
 use Rattle.definition.specs.Base.{Bytes, spaces}
 use Rattle.definition.specs.Ascii.{LF, SP}
 use Rattle.definition.specs.Deck.{marked, layoutOf}
-use Rattle.definition.specs.Pen.{mark, space, Script, put, _>>_, nothing, newline, indent, sign}
+use Rattle.definition.specs.Pen.{mark, space, nothing, newline, indent, sign}
 use Rattle.definition.specs.Walk.{propsCompact, includeLine, belowIntroducer, valueOf, bare, content}
 use Rattle.definition.specs.declared.Cursor.{Cursor}
 use Rattle.definition.specs.declared.Lines.{Lines}
@@ -16,7 +17,6 @@ use Rattle.node.specs.declared.Remark.{Remark}
 use Rattle.node.specs.Ends.{Ends}
 use Rattle.node.specs.Total.{keptOf, broughtOf, originOf, remarkOf}
 use Rattle.pen.specs.Pen.{Pen, put1, puts, ink}
-use Rattle.scripts.specs.Keep.{flow-of, key-of}
 use Rattle.parts.specs.Draws.{Draws, both, of-byte, of-puts}
 use Rattle.parts.specs.Lines.{directed, belowOpen, breaks}
 use Rattle.spot.specs.declared.Body.{Body}
@@ -26,17 +26,31 @@ use Rattle.spot.specs.Spot.{endOf, keptIn, broughtIn, kindIn, endIn, nodeIn}
 use Rattle.spot.specs.Good.{Good}
 use Rattle.atoms.specs.Atoms.{on}
 use Rattle.choices.specs.Choices.{bareIn, bare-is, emptyIn}
-use Rattle.joints.specs.declared.Manner.{Manner}
-use Rattle.joints.specs.declared.Manner.the-variants.{Value, Below, Asked}
+use Rattle.joints.specs.declared.Manner.the-variants.{Below, Asked}
 use Rattle.joints.specs.Line.{rankOf, dressed, keyBy, ending, lineOf}
 use Rattle.joints.specs.Entries.{nextAt}
 use Rattle.flow.specs.Ready.{Emits}
-use Rattle.layout.specs.Emitting.{drawn-first, emits-yes, emits-no, emits-same, calm-line, line-value}
+use Rattle.layout.specs.Emitting.{emits-yes, emits-no}
 use Rattle.layout.specs.Stretch.{includeAfter, keyLine}
+use Rattle.layout.specs.Value.{besideIn, valueIn, line-after}
 
 and-left : (a b : Bool) → (a && b) ≡ true → a ≡ true
 and-left true b e = refl
 and-left false b e = e
+
+second-on : (a b : Bool) → a ≡ false → (not a && not b) ≡ false → b ≡ true
+second-on true b e f = absurd (true≢false e)
+second-on false true e f = refl
+second-on false false e f = sym f
+
+-- the pad: one space at least
+pub pad-one : {P Q : Pen} (n : ℕ) → n < 2 → Q ≡ put1 P SP → Draws (indent (max n 1)) P Q
+unfolding indent spaces
+pad-one n h e = let z : max n 1 ≡ 1 = omega (arith, h) in rw z (of-byte space SP e)
+
+pub pad-more : {P Q : Pen} (n : ℕ) → 2 ≤ n → Q ≡ puts (spaces n) P → Draws (indent (max n 1)) P Q
+unfolding indent
+pad-more n h e = let z : max n 1 ≡ n = omega (arith, h) in rw z (of-puts space (spaces n) e)
 
 module _ (s : Settings) (deck pool : Bytes) where
   pub included-whole :
@@ -45,46 +59,23 @@ module _ (s : Settings) (deck pool : Bytes) where
   unfolding includeAfter includeLine directed sign keptOf
   included-whole x c r e d n = record { drawn = both _ _ (of-byte mark SP e) d .drawn s; next = n .tree pool; onward = n .onward; within = n .within }
 
-  -- a script, and a node on its line where no flow collection and no key is open
-  line-after :
-      (a : Script) (m : Manner) (x : Spot) (i : ℕ) (r : Cursor) (P Q R : Pen) → P .w .flow ≡ 0 → P .w .key ≡ 0 → Draws a P Q
-      → Emits s (lineOf s (on (Q .w .flow)) (on (Q .w .key)) m i (nodeIn deck pool x)) Q R (x .place) (endIn deck pool x) r (length deck)
-      → Emits s (a >> lineOf s false false m i (nodeIn deck pool x)) P R (x .place) (endIn deck pool x) r (length deck)
-  line-after a m x i r P Q R f k d e =
-      drawn-first _ _ d (emits-same _ _ (calm-line s m i (Q .w .flow) (Q .w .key) (nodeIn deck pool x) (flow-of s a P Q (d .drawn s) ∙ f) (key-of s a P Q (d .drawn s) ∙ k)) e)
-
   pub below-whole :
       (x : Spot) (i : ℕ) (r : Cursor) (P Q R : Pen) → P .w .flow ≡ 0 → P .w .key ≡ 0 → Draws (belowOpen (x .place) (keptOf deck pool (x .lead)) (broughtOf deck pool (x .lead)) i) P Q
       → Emits s (lineOf s (on (Q .w .flow)) (on (Q .w .key)) Below i (nodeIn deck pool x)) Q R (x .place) (endIn deck pool x) r (length deck)
       → Emits s (belowIntroducer (x .place) (keptIn deck pool x) (broughtIn deck pool x) i (content s false false i (nodeIn deck pool x))) P R (x .place) (endIn deck pool x) r (length deck)
   unfolding ink puts nothing belowIntroducer belowOpen breaks lineOf dressed keyBy ending rankOf nodeIn
   below-whole x i r P Q R f k d e =
-      let m = line-after (belowOpen (x .place) (keptOf deck pool (x .lead)) (broughtOf deck pool (x .lead)) i) Below x i r P Q R f k d e in
+      let m = line-after s deck pool (belowOpen (x .place) (keptOf deck pool (x .lead)) (broughtOf deck pool (x .lead)) i) Below x i r P Q R f k d e in
       record { drawn = m .drawn; next = m .next; onward = m .onward; within = m .within }
 
   -- ---- a value
 
-  abbrev valueIn : Spot → ℕ → Script
-  valueIn x i = valueOf (bare s (keptIn deck pool x) (kindIn deck pool x)) (x .place) (keptIn deck pool x) (broughtIn deck pool x) i (content s false false i (nodeIn deck pool x))
-
   pub value-below :
-      (x : Spot) (i : ℕ) (r : Cursor) (b m : Bool) {P Q : Pen} → b ≡ bareIn s pool (x .lead .lines) (x .lead .remark) (x .body) → b ≡ false → m ≡ marked (x .lead .lines .marks) 2 → m ≡ true
+      (x : Spot) (i : ℕ) (r : Cursor) (b : Bool) {P Q : Pen} → b ≡ bareIn s pool (x .lead .lines) (x .lead .remark) (x .body) → b ≡ false → besideIn s pool x ≡ false
       → Emits s (belowIntroducer (x .place) (keptIn deck pool x) (broughtIn deck pool x) i (content s false false i (nodeIn deck pool x))) P Q (x .place) (endIn deck pool x) r (length deck)
-      → Emits s (valueIn x i) P Q (x .place) (endIn deck pool x) r (length deck)
-  unfolding valueOf keptOf layoutOf
-  value-below x i r b m e f g h d = emits-no _ _ _ (bare-is s deck pool (x .lead) (x .body) (x .next) ∙ sym e ∙ f) (emits-yes _ _ _ (sym g ∙ h) d)
-
-  pub value-inline :
-      (x : Spot) (i n : ℕ) (r : Cursor) (b m : Bool) (P Q R : Pen) → P .w .flow ≡ 0 → P .w .key ≡ 0
-      → b ≡ bareIn s pool (x .lead .lines) (x .lead .remark) (x .body) → b ≡ false → m ≡ marked (x .lead .lines .marks) 2 → m ≡ false
-      → n ≡ max (x .lead .lines .pad) 1 → Q ≡ puts (spaces n) P
-      → Emits s (lineOf s (on (Q .w .flow)) (on (Q .w .key)) Value i (nodeIn deck pool x)) Q R (x .place) (endIn deck pool x) r (length deck)
-      → Emits s (valueIn x i) P R (x .place) (endIn deck pool x) r (length deck)
-  unfolding valueOf keptOf layoutOf indent nodeIn
-  value-inline x i n r b m P Q R f k e t g h o p d =
-      emits-no _ _ _ (bare-is s deck pool (x .lead) (x .body) (x .next) ∙ sym e ∙ t)
-      (emits-no _ _ _ (sym g ∙ h)
-      (rw (line-value s false false i (x .place) (keptIn deck pool x) (broughtIn deck pool x) (kindIn deck pool x)) at (line-after (put space (spaces (max (x .lead .lines .pad) 1))) Value x i r P Q R f k (of-puts space _ (rw o at p)) d)))
+      → Emits s (valueIn s deck pool x i) P Q (x .place) (endIn deck pool x) r (length deck)
+  unfolding valueOf keptOf layoutOf besideIn
+  value-below x i r b e f g d = emits-no _ _ _ (bare-is s deck pool (x .lead) (x .body) (x .next) ∙ sym e ∙ f) (emits-yes _ _ _ (second-on (bareIn s pool (x .lead .lines) (x .lead .remark) (x .body)) (marked (x .lead .lines .marks) 2) (sym e ∙ f) g) d)
 
   -- a bare node has no children
   bare-end : (b : Body) (c : Cursor) → emptyIn pool b ≡ true → endOf deck pool b c ≡ c
@@ -101,7 +92,7 @@ module _ (s : Settings) (deck pool : Bytes) where
 
   pub value-bare :
       (x : Spot) (i : ℕ) (b : Bool) {P Q R : Pen} → Good deck x → b ≡ bareIn s pool (x .lead .lines) (x .lead .remark) (x .body) → b ≡ true
-      → Draws (propsCompact (broughtOf deck pool (x .lead))) P Q → R ≡ put1 Q LF → Emits s (valueIn x i) P R (x .place) (endIn deck pool x) (x .next) (length deck)
+      → Draws (propsCompact (broughtOf deck pool (x .lead))) P Q → R ≡ put1 Q LF → Emits s (valueIn s deck pool x i) P R (x .place) (endIn deck pool x) (x .next) (length deck)
   unfolding valueOf newline
   value-bare x i b g e f d p =
       let h : bareIn s pool (x .lead .lines) (x .lead .remark) (x .body) ≡ true = sym e ∙ f in
@@ -115,4 +106,4 @@ module _ (s : Settings) (deck pool : Bytes) where
       → Emits s (lineOf s (on (Q .w .flow)) (on (Q .w .key)) Asked i (nodeIn deck pool x)) Q R (x .place) (endIn deck pool x) r (length deck)
       → Emits s (keyLine s i (broughtIn deck pool x) (nodeIn deck pool x)) P R (x .place) (endIn deck pool x) r (length deck)
   unfolding keyLine sign lineOf dressed keyBy ending rankOf nodeIn
-  key-line-whole x i r P Q R f k a e = line-after (sign SP) Asked x i r P Q R f k (of-byte mark SP a) e
+  key-line-whole x i r P Q R f k a e = line-after s deck pool (sign SP) Asked x i r P Q R f k (of-byte mark SP a) e

@@ -1,3 +1,4 @@
 pub mod Calm
 pub mod Emitting
 pub mod Stretch
+pub mod Value

@@ -7,12 +7,12 @@ use node::Lead;
 use pen::Writer;
 use spot::Spot;
 ghost use mathlib.Core.Path.{_≡_};
-ghost use Prim.Native.Nat.{_<_, _≤_, _^_};
+ghost use Prim.Native.Nat.{_<_, _≤_, _^_, max};
 ghost use mathlib.Core.Bool.{false};
 ghost use lib.ListN.{length};
 ghost use Rattle.definition.specs.Base.{if_then_else_};
-ghost use Rattle.definition.specs.Pen.{nothing};
-ghost use Rattle.definition.specs.Walk.{belowIntroducer, valueOf, bare, content};
+ghost use Rattle.definition.specs.Pen.{nothing, indent};
+ghost use Rattle.definition.specs.Walk.{belowIntroducer, content};
 ghost use Rattle.node.specs.Total.{keptOf};
 ghost use Rattle.pen.specs.Pen.{pen};
 ghost use Rattle.parts.specs.Draws.{Draws};
@@ -23,6 +23,7 @@ ghost use Rattle.spot.specs.Good.{Good, countIn};
 ghost use Rattle.joints.specs.Entries.{nextAt};
 ghost use Rattle.flow.specs.Ready.{Ready, Emits};
 ghost use Rattle.layout.specs.Stretch.{includeAfter, keyLine};
+ghost use Rattle.layout.specs.Value.{besideIn, valueIn};
 
 // An include's directive after `:` or `-`; the node's records are passed over.
 pub fn put_include(
@@ -60,8 +61,30 @@ fn put_below(
     flow::line(w1, deck, pool, out, settings, x, i, Manner::Below)
 }
 
-// What is no block collection after `:` or `-`.
-pub fn put_value(
+// The space between an introducer and its value. One space is a byte: most values have no other pad.
+pub fn put_pad(w: Writer, out: &mut [u8], pad: usize) -> Writer
+    requires { ⌜ length (now out) < 2 ^ 62 ⌝ }
+    ensures { λ r. ⌜ Draws (indent (max pad 1)) (pen w (now (out .entry))) (pen r (now (out .exit))) ⌝ }
+{
+    if pad < 2 {
+        return w.byte(out, b' ');
+    }
+    w.spaces(out, pad)
+}
+
+// What is no block collection stands on the line of its `:` or `-`, and something is written of it.
+pub fn is_beside(settings: Settings, pool: &[u8], x: Spot) -> bool
+    ensures { λ r. ⌜ r ≡ besideIn settings (now (pool .entry)) x ⌝ }
+{
+    let body = x.body;
+    if choices::bare(settings, pool, x.lead.lines, x.lead.remark, body) {
+        return false;
+    }
+    !parts::is_marked(x.lead.lines.marks, 2)
+}
+
+// What is no block collection after `:` or `-`, but where it stands beside it: then its line is written where this would be called (docs/DECISIONS.md).
+pub fn put_apart(
     w: Writer,
     deck: &[u8],
     pool: &[u8],
@@ -70,8 +93,8 @@ pub fn put_value(
     x: Spot,
     i: usize,
 ) -> Emitted
-    requires { ⌜ (Ready settings (now deck) (now pool) (pen w (now out)) (x .place) i) × Good (now deck) x × (countIn (x .body) < 65536) × (w .flow ≡ 0) × (w .key ≡ 0) ⌝ }
-    ensures { λ r. ⌜ Emits settings (valueOf (bare settings (keptIn (now (deck .entry)) (now (pool .entry)) x) (kindIn (now (deck .entry)) (now (pool .entry)) x)) (x .place) (keptIn (now (deck .entry)) (now (pool .entry)) x) (broughtIn (now (deck .entry)) (now (pool .entry)) x) i (content settings false false i (nodeIn (now (deck .entry)) (now (pool .entry)) x))) (pen w (now (out .entry))) (pen (r .w) (now (out .exit))) (x .place) (endIn (now (deck .entry)) (now (pool .entry)) x) (r .next) (length (now (deck .entry))) ⌝ }
+    requires { ⌜ (Ready settings (now deck) (now pool) (pen w (now out)) (x .place) i) × Good (now deck) x × (countIn (x .body) < 65536) × (w .flow ≡ 0) × (w .key ≡ 0) × (besideIn settings (now pool) x ≡ false) ⌝ }
+    ensures { λ r. ⌜ Emits settings (valueIn settings (now (deck .entry)) (now (pool .entry)) x i) (pen w (now (out .entry))) (pen (r .w) (now (out .exit))) (x .place) (endIn (now (deck .entry)) (now (pool .entry)) x) (r .next) (length (now (deck .entry))) ⌝ }
 {
     let body = x.body;
     if choices::bare(settings, pool, x.lead.lines, x.lead.remark, body) {
@@ -80,11 +103,7 @@ pub fn put_value(
         let next = x.next;
         return Emitted { w: w2, next };
     }
-    if parts::is_marked(x.lead.lines.marks, 2) {
-        return put_below(w, deck, pool, out, settings, x, i);
-    }
-    let w1 = w.spaces(out, pen::at_least_one(x.lead.lines.pad));
-    flow::line(w1, deck, pool, out, settings, x, i, Manner::Value)
+    put_below(w, deck, pool, out, settings, x, i)
 }
 
 // A key after `?` that stands on its line.

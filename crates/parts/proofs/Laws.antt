@@ -118,9 +118,3 @@ short-run Directives l r h k = rw k (omega (arith, h .directives-first), omega (
 pub of-run :
     (deck pool : Bytes) (e : Entries) (i : ℕ) (l : Lead) {r : Run} {P Q : Pen} → r ≡ runOf e l → Draws (entries deck pool e i (r .count) (r .first)) P Q → Draws (repeated e (keptOf deck pool l) i) P Q
 of-run deck pool e i l {P = P} k d = record { drawn = λ s. rw k at (d .drawn s) ∙ sym (repeated-drawn deck pool i s e l P) }
-
--- a run of no records
-pub none-repeated : (deck pool : Bytes) (e : Entries) (i : ℕ) (l : Lead) {P : Pen} → runOf e l .count ≡ 0 → Draws (repeated e (keptOf deck pool l) i) P P
-unfolding ink entries nothing puts
-none-repeated deck pool e i l {P = P} z =
-    record { drawn = λ s. sym (repeated-drawn deck pool i s e l P ∙ ap (λ (n : ℕ). ink s (entries deck pool e i n (runOf e l .first)) P) z) }

@@ -140,3 +140,9 @@ module _ (deck pool : Bytes) (i : ℕ) (s : Settings) where
   repeated-drawn Under l p = heads-drawn Under (λ h. h .below) refl (λ c q. refl) _ _ p
   repeated-drawn Foots l p = texts-drawn Foots refl (λ c. refl) _ _ p
   repeated-drawn Directives l p = directives-drawn _ _ p
+
+-- a run of no records
+pub none-repeated : (deck pool : Bytes) (e : Entries) (i : ℕ) (l : Lead) {P : Pen} → runOf e l .count ≡ 0 → Draws (repeated e (keptOf deck pool l) i) P P
+unfolding ink entries nothing puts
+none-repeated deck pool e i l {P = P} z =
+    record { drawn = λ s. sym (repeated-drawn deck pool i s e l P ∙ ap (λ (n : ℕ). ink s (entries deck pool e i n (runOf e l .first)) P) z) }

@@ -127,6 +127,23 @@ fn fill(out: &mut [u8], at: usize, b: u8, n: usize)
 }
 
 impl Writer {
+    // The same writer, made anew of its fields: of what comes from a call the compiler then reads the numbers, and copies no memory.
+    pub fn anew(self) -> Self
+        ensures { λ r. ⌜ r ≡ self ⌝ }
+    {
+        Writer {
+            len: self.len,
+            flow: self.flow,
+            last: self.last,
+            key: self.key,
+            under: self.under,
+            inline: self.inline,
+            column: self.column,
+            raw: self.raw,
+            tracks: self.tracks,
+        }
+    }
+
     // The column after a byte.
     fn column_after(self, most: usize, b: u8) -> usize
         requires { ⌜ most < 2 ^ 63 ⌝ }

@@ -1,21 +1,26 @@
 use mathlib.Core.Path.{refl}
-use Rattle.parts.specs.Runs.{repeated}
+use Rattle.parts.specs.declared.Entries.the-variants.{Foots}
+use Rattle.parts.specs.Runs.{runOf, repeated, none-repeated}
 use borrow.Author.Needs.{needs}
 use Rattle.block.proofs.with_foots.Statement.{statement}
 use Rattle.block.proofs.with_foots.Tie as tie
 
--- src/lib.rt:53:9
+anew-requires : tie.Need-anew-requires
+anew-requires c κs = search needs
+
+returns : tie.Need-returns
+unfolding repeated runOf
+returns c = record { drawn = rw (c .anew .ensures) (none-repeated _ _ Foots _ (c .before .before .before .before .before .before .before .args .x .lead) (c .before .if1 .taken)); next = refl }
+
 put-repeated-requires : tie.Need-put-repeated-requires
 put-repeated-requires c κs = search needs
 
--- src/lib.rt:46:1
 same-length : tie.Need-same-length
 same-length c = search needs
 
--- src/lib.rt:46:1
-returns : tie.Need-returns
+returns-2 : tie.Need-returns-2
 unfolding repeated
-returns c = record { drawn = c .before .before .put-repeated .ensures; next = refl }
+returns-2 c = record { drawn = c .before .before .put-repeated .ensures; next = refl }
 
 pub with-foots-spec : {M : Type 1} → statement M
-with-foots-spec = tie.close (tie.spec put-repeated-requires same-length returns)
+with-foots-spec = tie.close (tie.spec anew-requires returns put-repeated-requires same-length returns-2)

@@ -24,8 +24,8 @@ returns : tie.Need-returns Inv-loop μ-loop
 returns c = rest-end _ _ _ _ _ _ _ _ _ (c .before .before .before .loop .inv) (c .if1 .taken)
 
 -- src/lib.rt:322:13
-put-later-requires : tie.Need-put-later-requires Inv-loop μ-loop
-put-later-requires c κs = c .before .before .before .before .loop .inv .calm
+put-document-requires : tie.Need-put-document-requires Inv-loop μ-loop
+put-document-requires c κs = c .before .before .before .before .loop .inv .calm
 
 -- src/lib.rt:325:9
 sub-left : tie.Need-sub-left Inv-loop μ-loop
@@ -37,7 +37,7 @@ loop-less c = search needs
 
 -- src/lib.rt:318:5
 loop-again : tie.Need-loop-again Inv-loop μ-loop
-loop-again c = rest-turn _ _ _ _ _ _ _ _ _ _ _ (c .before .before .before .before .before .before .before .before .before .loop .inv) (c .before .before .before .before .before .before .before .before .loop-test .taken) (let h = c .before .before .before .before .before .before .if1 .left in omega (arith, h)) (c .before .before .before .before .put-later .ensures)
+loop-again c = rest-turn _ _ _ _ _ _ _ _ _ _ _ (c .before .before .before .before .before .before .before .before .before .loop .inv) (c .before .before .before .before .before .before .before .before .loop-test .taken) (let h = c .before .before .before .before .before .before .if1 .left in omega (arith, h)) (c .before .before .before .before .put-document .ensures)
 
 -- src/lib.rt:303:1
 same-length-2 : tie.Need-same-length-2 Inv-loop μ-loop
@@ -56,7 +56,7 @@ put-rest-spec =
     loop-holds
     same-length
     returns
-    put-later-requires
+    put-document-requires
     sub-left
     loop-less
     loop-again

@@ -43,7 +43,7 @@ use Rattle.flow.proofs.+content+entry_key+entry_node+flow_entries+flow_
 use Rattle.flow.proofs.+content+entry_key+entry_node+flow_entries+flow_entry+group+line+lined_entries+lined_entry+lined_group+plain_group.Proof.EntryNode.{entry-node-spot-at-requires, entry-node-line-requires, entry-node-same-length, entry-node-returns}
 use Rattle.flow.proofs.+content+entry_key+entry_node+flow_entries+flow_entry+group+line+lined_entries+lined_entry+lined_group+plain_group.Proof.Line.{line-put-dress-requires, line-key-in-requires, line-with-key-requires, line-content-requires, line-with-key-requires-2, line-put-ending-requires, line-same-length, line-returns}
 use Rattle.flow.proofs.+content+entry_key+entry_node+flow_entries+flow_entry+group+line+lined_entries+lined_entry+lined_group+plain_group.Proof.LinedEntries.{lined-entries-Inv-loop, lined-entries-μ-loop, lined-entries-loop-holds, lined-entries-lined-entry-requires, lined-entries-sub-left, lined-entries-loop-less, lined-entries-loop-again, lined-entries-same-length, lined-entries-returns}
-use Rattle.flow.proofs.+content+entry_key+entry_node+flow_entries+flow_entry+group+line+lined_entries+lined_entry+lined_group+plain_group.Proof.LinedEntry.{lined-entry-last-of-requires, lined-entry-spot-at-requires, lined-entry-put-lined-before-requires, lined-entry-flow-entry-requires, lined-entry-put-lined-after-requires, lined-entry-same-length, lined-entry-returns}
+use Rattle.flow.proofs.+content+entry_key+entry_node+flow_entries+flow_entry+group+line+lined_entries+lined_entry+lined_group+plain_group.Proof.LinedEntry.{lined-entry-last-of-requires, lined-entry-spot-at-requires, lined-entry-put-lined-before-requires, lined-entry-entry-key-requires, lined-entry-line-requires, lined-entry-put-lined-after-requires, lined-entry-same-length, lined-entry-returns}
 use Rattle.flow.proofs.+content+entry_key+entry_node+flow_entries+flow_entry+group+line+lined_entries+lined_entry+lined_group+plain_group.Proof.LinedGroup.{lined-group-opening-of-requires, lined-group-byte-requires, lined-group-byte-requires-2, lined-group-lined-entries-requires, lined-group-spaces-requires, lined-group-closing-of-requires, lined-group-byte-requires-3, lined-group-same-length, lined-group-returns}
 use Rattle.flow.proofs.+content+entry_key+entry_node+flow_entries+flow_entry+group+line+lined_entries+lined_entry+lined_group+plain_group.Proof.PlainGroup.{plain-group-opening-of-requires, plain-group-byte-requires, plain-group-flow-entries-requires, plain-group-closing-of-requires, plain-group-byte-requires-2, plain-group-same-length, plain-group-returns}
 
@@ -170,7 +170,8 @@ pub +content+entry-key+entry-node+flow-entries+flow-entry+group+line+lined-entri
     (lined-entry-last-of-requires t)
     (lined-entry-spot-at-requires t)
     (lined-entry-put-lined-before-requires t)
-    (lined-entry-flow-entry-requires t)
+    (lined-entry-entry-key-requires t)
+    (lined-entry-line-requires t)
     (lined-entry-put-lined-after-requires t)
     (lined-entry-same-length t)
     (lined-entry-returns t))

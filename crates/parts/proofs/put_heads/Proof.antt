@@ -1,8 +1,8 @@
 -- `parts::put_heads` meets its contract.
 use mathlib.Core.Path.{refl}
 use Rattle.parts.specs.declared.Entries.the-variants.{Heads}
-use Rattle.parts.specs.Runs.{runOf, repeated}
-use Rattle.parts.proofs.Laws.{short-run, of-run, none-repeated}
+use Rattle.parts.specs.Runs.{runOf, repeated, none-repeated}
+use Rattle.parts.proofs.Laws.{short-run, of-run}
 use borrow.Author.Needs.{needs}
 use Rattle.parts.proofs.put_heads.Statement.{statement}
 use Rattle.parts.proofs.put_heads.Tie as tie

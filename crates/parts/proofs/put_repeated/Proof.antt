@@ -1,7 +1,8 @@
 -- `parts::put_repeated` meets its contract.
 use mathlib.Core.Path.{sym, ap, _∙_}
 use Rattle.node.specs.declared.Run.{Run}
-use Rattle.parts.proofs.Laws.{short-run, of-run, none-repeated}
+use Rattle.parts.specs.Runs.{none-repeated}
+use Rattle.parts.proofs.Laws.{short-run, of-run}
 use borrow.Author.Needs.{needs}
 use Rattle.parts.proofs.put_repeated.Statement.{statement}
 use Rattle.parts.proofs.put_repeated.Tie as tie

@@ -42,11 +42,14 @@ use Rattle.choices.proofs.on_dash_line.Reads as on-dash-line-reads
 use Rattle.choices.proofs.step_of.Reads as step-of-reads
 use Rattle.choices.proofs.value_column.Reads as value-column-reads
 use Rattle.flow.proofs.line.Reads as line-reads
+use Rattle.layout.proofs.is_beside.Reads as is-beside-reads
+use Rattle.layout.proofs.put_apart.Reads as put-apart-reads
 use Rattle.layout.proofs.put_before.Reads as put-before-reads
 use Rattle.layout.proofs.put_include.Reads as put-include-reads
 use Rattle.layout.proofs.put_key_line.Reads as put-key-line-reads
-use Rattle.layout.proofs.put_value.Reads as put-value-reads
+use Rattle.layout.proofs.put_pad.Reads as put-pad-reads
 use Rattle.parts.proofs.put_props_compact.Reads as put-props-compact-reads
+use Rattle.pen.proofs.Writer.anew.Reads as anew-reads
 use Rattle.pen.proofs.Writer.byte.Reads as byte-reads
 use Rattle.spot.proofs.case_of.Reads as case-of-reads
 use Rattle.spot.proofs.spot_at.Reads as spot-at-reads
@@ -158,8 +161,14 @@ put-dash-claims t = (
   is-block-reads.Learnt,
   put-dashed-below t,
   put-dashed.Post,
-  put-value-reads.Asked,
-  put-value-reads.Learnt,
+  is-beside-reads.Asked,
+  is-beside-reads.Learnt,
+  put-pad-reads.Asked,
+  put-pad-reads.Learnt,
+  line-reads.Asked,
+  line-reads.Learnt,
+  put-apart-reads.Asked,
+  put-apart-reads.Learnt,
 )
 
 abbrev pub put-dashed-claims : ℕ → put-dashed-lts.Claims
@@ -226,6 +235,8 @@ put-row-claims t = (
   put-before-reads.Learnt,
   put-key-below t,
   put-key.Post,
+  anew-reads.Asked,
+  anew-reads.Learnt,
   put-value-below t,
   put-value.Post,
   put-dash-below t,
@@ -236,6 +247,8 @@ abbrev pub put-rows-claims : ℕ → put-rows-lts.Claims
 put-rows-claims t = (
   put-row-below t,
   put-row.Post,
+  anew-reads.Asked,
+  anew-reads.Learnt,
 )
 
 abbrev pub put-under-claims : ℕ → put-under-lts.Claims
@@ -264,6 +277,12 @@ put-value-claims t = (
   put-under.Post,
   step-of-reads.Asked,
   step-of-reads.Learnt,
-  put-value-reads.Asked,
-  put-value-reads.Learnt,
+  is-beside-reads.Asked,
+  is-beside-reads.Learnt,
+  put-pad-reads.Asked,
+  put-pad-reads.Learnt,
+  line-reads.Asked,
+  line-reads.Learnt,
+  put-apart-reads.Asked,
+  put-apart-reads.Learnt,
 )

@@ -1,6 +1,8 @@
 use native.Mathlib.Omega.{arith}
 use Rattle.definition.specs.Pen.{mark}
 use Rattle.parts.specs.Draws.{of-byte}
+use Rattle.flow.specs.Ready.{after-drawn}
+use Rattle.layout.specs.Value.{value-beside}
 use Rattle.layout.specs.Calm.{calm-drawn, calm-further, in-line}
 use Rattle.block.proofs.Laws.{dash-included, dash-block, dash-plain}
 use Rattle.spot.specs.Good.{spot-good, few-spot}
@@ -49,18 +51,29 @@ put-dash-same-length-2 t c = search needs
 pub put-dash-returns-2 : (t : ℕ) → put-dash-lts.Need-returns-2 (put-dash-claims t) (put-dash-at t) put-dash.Post
 put-dash-returns-2 t c = let r = (c .before .before .before .before .before .before .before .before .before .before .before .before .before .before .before .pre) .1 .0 .ready in dash-block _ _ _ _ _ _ _ _ _ _ (r .here) (r .deck-small) ((c .before .before .before .before .before .before .before .before .before .before .before .before .before .before .before .pre) .1 .1) (c .before .before .before .before .before .before .before .before .before .before .byte .ensures) (c .before .before .before .before .before .before .before .is-included .ensures) (c .before .before .before .before .before .before .if1 .left) (c .before .before .before .before .before .is-block .ensures) (c .before .before .before .before .if2 .taken) (c .before .before .put-dashed .ensures)
 
--- src/lib.rt:251:57
-pub put-dash-add-put-value : (t : ℕ) → put-dash-lts.Need-add-put-value (put-dash-claims t) (put-dash-at t) put-dash.Post
-put-dash-add-put-value t c = search needs
+pub put-dash-add-j : (t : ℕ) → put-dash-lts.Need-add-j (put-dash-claims t) (put-dash-at t) put-dash.Post
+put-dash-add-j t c = search needs
 
--- src/lib.rt:251:5
-pub put-dash-put-value-requires : (t : ℕ) → put-dash-lts.Need-put-value-requires (put-dash-claims t) (put-dash-at t) put-dash.Post
-put-dash-put-value-requires t c κs = let p = calm-drawn ((c .before .before .before .before .before .before .before .before .before .before .before .before .pre) .1 .0) (of-byte mark _ (c .before .before .before .before .before .before .before .byte .ensures)) in let r = p .ready in let g = spot-good _ _ _ (r .here) (r .deck-small) ((c .before .before .before .before .before .before .before .before .before .before .before .before .pre) .1 .1) in (in-line p _ _ (g .1) (g .2) (omega arith), g .0, few-spot _ (λ k. omega (arith, c .before .before .before .before .before .before .before .before .before .before .before .shared-slice-known .given k)) _ _ (r .here) ((c .before .before .before .before .before .before .before .before .before .before .before .before .pre) .1 .1), p .flow, p .key)
+pub put-dash-is-beside-requires : (t : ℕ) → put-dash-lts.Need-is-beside-requires (put-dash-claims t) (put-dash-at t) put-dash.Post
+put-dash-is-beside-requires t c κs = search needs
 
--- src/lib.rt:229:1
+pub put-dash-put-pad-requires : (t : ℕ) → put-dash-lts.Need-put-pad-requires (put-dash-claims t) (put-dash-at t) put-dash.Post
+put-dash-put-pad-requires t c κs = let r = calm-drawn ((c .before .before .before .before .before .before .before .before .before .before .before .before .before .before .pre) .1 .0) (of-byte mark _ (c .before .before .before .before .before .before .before .before .before .byte .ensures)) .ready in omega (arith, r .out-small)
+
+pub put-dash-line-requires : (t : ℕ) → put-dash-lts.Need-line-requires (put-dash-claims t) (put-dash-at t) put-dash.Post
+put-dash-line-requires t c κs = let p = calm-drawn ((c .before .before .before .before .before .before .before .before .before .before .before .before .before .before .before .before .before .before .pre) .1 .0) (of-byte mark _ (c .before .before .before .before .before .before .before .before .before .before .before .before .before .byte .ensures)) in let r = p .ready in let g = spot-good _ _ _ (r .here) (r .deck-small) ((c .before .before .before .before .before .before .before .before .before .before .before .before .before .before .before .before .before .before .pre) .1 .1) in (after-drawn (in-line p _ _ (g .1) (g .2) (omega arith)) (c .before .before .before .put-pad .ensures), g .0, few-spot _ (λ k. omega (arith, c .before .before .before .before .before .before .before .before .before .before .before .before .before .before .before .before .before .shared-slice-known .given k)) _ _ (r .here) ((c .before .before .before .before .before .before .before .before .before .before .before .before .before .before .before .before .before .before .pre) .1 .1))
+
 pub put-dash-same-length-3 : (t : ℕ) → put-dash-lts.Need-same-length-3 (put-dash-claims t) (put-dash-at t) put-dash.Post
-put-dash-same-length-3 t c = search needs
+put-dash-same-length-3 t c = let a = c .before .before .before .before .before .before .before .before .before .before .before .before .before .before .before .before .byte .kept in let b = c .before .before .before .before .before .before .put-pad .kept in let d = c .before .before .line .kept in omega (arith, a, b, d)
 
--- src/lib.rt:229:1
 pub put-dash-returns-3 : (t : ℕ) → put-dash-lts.Need-returns-3 (put-dash-claims t) (put-dash-at t) put-dash.Post
-put-dash-returns-3 t c = let r = (c .before .before .before .before .before .before .before .before .before .before .before .before .before .before .before .pre) .1 .0 .ready in dash-plain _ _ _ _ _ _ _ _ _ (r .here) (r .deck-small) ((c .before .before .before .before .before .before .before .before .before .before .before .before .before .before .before .pre) .1 .1) (c .before .before .before .before .before .before .before .before .before .before .byte .ensures) (c .before .before .before .before .before .before .before .is-included .ensures) (c .before .before .before .before .before .before .if1 .left) (c .before .before .before .before .before .is-block .ensures) (c .before .before .before .before .if2 .left) (c .before .before .put-value .ensures)
+put-dash-returns-3 t c = let p = calm-drawn ((c .before .before .before .before .before .before .before .before .before .before .before .before .before .before .before .before .before .before .before .before .before .pre) .1 .0) (of-byte mark _ (c .before .before .before .before .before .before .before .before .before .before .before .before .before .before .before .before .byte .ensures)) in let r = p .ready in dash-plain _ _ _ _ _ _ _ _ _ (r .here) (r .deck-small) ((c .before .before .before .before .before .before .before .before .before .before .before .before .before .before .before .before .before .before .before .before .before .pre) .1 .1) (c .before .before .before .before .before .before .before .before .before .before .before .before .before .before .before .before .byte .ensures) (c .before .before .before .before .before .before .before .before .before .before .before .before .before .is-included .ensures) (c .before .before .before .before .before .before .before .before .before .before .before .before .if1 .left) (c .before .before .before .before .before .before .before .before .before .before .before .is-block .ensures) (c .before .before .before .before .before .before .before .before .before .before .if2 .left) (value-beside _ _ _ _ _ _ _ _ _ _ (p .flow) (p .key) (c .before .before .before .before .before .before .before .before .before .is-beside .ensures) (c .before .before .before .before .before .before .before .before .if3 .taken) (c .before .before .before .before .before .before .put-pad .ensures) (c .before .before .line .ensures))
+
+pub put-dash-put-apart-requires : (t : ℕ) → put-dash-lts.Need-put-apart-requires (put-dash-claims t) (put-dash-at t) put-dash.Post
+put-dash-put-apart-requires t c κs = let p = calm-drawn ((c .before .before .before .before .before .before .before .before .before .before .before .before .before .before .pre) .1 .0) (of-byte mark _ (c .before .before .before .before .before .before .before .before .before .byte .ensures)) in let r = p .ready in let g = spot-good _ _ _ (r .here) (r .deck-small) ((c .before .before .before .before .before .before .before .before .before .before .before .before .before .before .pre) .1 .1) in (in-line p _ _ (g .1) (g .2) (omega arith), g .0, few-spot _ (λ k. omega (arith, c .before .before .before .before .before .before .before .before .before .before .before .before .before .shared-slice-known .given k)) _ _ (r .here) ((c .before .before .before .before .before .before .before .before .before .before .before .before .before .before .pre) .1 .1), p .flow, p .key, sym (c .before .before .is-beside .ensures) ∙ c .before .if3 .left)
+
+pub put-dash-same-length-4 : (t : ℕ) → put-dash-lts.Need-same-length-4 (put-dash-claims t) (put-dash-at t) put-dash.Post
+put-dash-same-length-4 t c = search needs
+
+pub put-dash-returns-4 : (t : ℕ) → put-dash-lts.Need-returns-4 (put-dash-claims t) (put-dash-at t) put-dash.Post
+put-dash-returns-4 t c = let r = (c .before .before .before .before .before .before .before .before .before .before .before .before .before .before .before .before .before .pre) .1 .0 .ready in dash-plain _ _ _ _ _ _ _ _ _ (r .here) (r .deck-small) ((c .before .before .before .before .before .before .before .before .before .before .before .before .before .before .before .before .before .pre) .1 .1) (c .before .before .before .before .before .before .before .before .before .before .before .before .byte .ensures) (c .before .before .before .before .before .before .before .before .before .is-included .ensures) (c .before .before .before .before .before .before .before .before .if1 .left) (c .before .before .before .before .before .before .before .is-block .ensures) (c .before .before .before .before .before .before .if2 .left) (c .before .before .put-apart .ensures)

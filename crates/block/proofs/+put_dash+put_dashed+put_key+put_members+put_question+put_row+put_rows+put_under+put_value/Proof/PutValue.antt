@@ -1,5 +1,7 @@
 use native.Mathlib.Omega.{arith}
-use mathlib.Core.Path.{refl}
+use mathlib.Core.Path.{refl, sym, _∙_}
+use Rattle.flow.specs.Ready.{after-drawn}
+use Rattle.layout.specs.Value.{value-beside}
 use Rattle.layout.specs.Calm.{calm-inside, in-line}
 use Rattle.block.proofs.Laws.{deeper, value-included, value-block, value-plain}
 use Rattle.spot.specs.Good.{spot-good, few-spot}
@@ -58,14 +60,26 @@ put-value-step-of-requires t c κs = search needs
 pub put-value-add-j : (t : ℕ) → put-value-lts.Need-add-j (put-value-claims t) (put-value-at t) put-value.Post
 put-value-add-j t c = let p = (c .before .before .before .before .before .before .before .before .before .pre) .1 in let e = c .step-of .ensures .1 (p .ready .step) in omega (arith, e, p .column)
 
--- src/lib.rt:225:5
-pub put-value-put-value-requires : (t : ℕ) → put-value-lts.Need-put-value-requires (put-value-claims t) (put-value-at t) put-value.Post
-put-value-put-value-requires t c κs = let p = (c .before .before .before .before .before .before .before .before .before .before .pre) .1 in let r = p .ready in let g = spot-good _ _ _ (r .here) (r .deck-small) (c .before .before .before .before .before .before .spot-at .ensures) in let e = c .before .step-of .ensures .1 (r .step) in (in-line p _ _ (g .1) (g .2) (omega (arith, e)), g .0, few-spot _ (λ k. omega (arith, c .before .before .before .before .before .before .before .before .before .shared-slice-known .given k)) _ _ (r .here) (c .before .before .before .before .before .before .spot-at .ensures), p .flow, p .key)
+pub put-value-is-beside-requires : (t : ℕ) → put-value-lts.Need-is-beside-requires (put-value-claims t) (put-value-at t) put-value.Post
+put-value-is-beside-requires t c κs = search needs
 
--- src/lib.rt:202:1
+pub put-value-put-pad-requires : (t : ℕ) → put-value-lts.Need-put-pad-requires (put-value-claims t) (put-value-at t) put-value.Post
+put-value-put-pad-requires t c κs = search needs
+
+pub put-value-line-requires : (t : ℕ) → put-value-lts.Need-line-requires (put-value-claims t) (put-value-at t) put-value.Post
+put-value-line-requires t c κs = let p = (c .before .before .before .before .before .before .before .before .before .before .before .before .before .before .before .before .pre) .1 in let r = p .ready in let g = spot-good _ _ _ (r .here) (r .deck-small) (c .before .before .before .before .before .before .before .before .before .before .before .before .spot-at .ensures) in let e = c .before .before .before .before .before .before .before .step-of .ensures .1 (r .step) in (after-drawn (in-line p _ _ (g .1) (g .2) (omega (arith, e))) (c .before .before .before .put-pad .ensures), g .0, few-spot _ (λ k. omega (arith, c .before .before .before .before .before .before .before .before .before .before .before .before .before .before .before .shared-slice-known .given k)) _ _ (r .here) (c .before .before .before .before .before .before .before .before .before .before .before .before .spot-at .ensures))
+
 pub put-value-same-length-3 : (t : ℕ) → put-value-lts.Need-same-length-3 (put-value-claims t) (put-value-at t) put-value.Post
 put-value-same-length-3 t c = search needs
 
--- src/lib.rt:202:1
 pub put-value-returns-3 : (t : ℕ) → put-value-lts.Need-returns-3 (put-value-claims t) (put-value-at t) put-value.Post
-put-value-returns-3 t c = let r = (c .before .before .before .before .before .before .before .before .before .before .before .before .before .pre) .1 .ready in value-plain _ _ _ _ _ _ _ _ _ _ _ (r .here) (r .deck-small) (c .before .before .before .before .before .before .before .before .before .spot-at .ensures) (c .before .before .before .before .before .before .before .before .is-included .ensures) (c .before .before .before .before .before .before .before .if1 .left) (c .before .before .before .before .before .before .is-block .ensures) (c .before .before .before .before .before .if2 .left) (c .before .before .before .before .step-of .ensures .0) refl (c .before .before .put-value .ensures)
+put-value-returns-3 t c = let p = (c .before .before .before .before .before .before .before .before .before .before .before .before .before .before .before .before .before .before .before .pre) .1 in value-plain _ _ _ _ _ _ _ _ _ _ _ (p .ready .here) (p .ready .deck-small) (c .before .before .before .before .before .before .before .before .before .before .before .before .before .before .before .spot-at .ensures) (c .before .before .before .before .before .before .before .before .before .before .before .before .before .before .is-included .ensures) (c .before .before .before .before .before .before .before .before .before .before .before .before .before .if1 .left) (c .before .before .before .before .before .before .before .before .before .before .before .before .is-block .ensures) (c .before .before .before .before .before .before .before .before .before .before .before .if2 .left) (c .before .before .before .before .before .before .before .before .before .before .step-of .ensures .0) refl (value-beside _ _ _ _ _ _ _ _ _ _ (p .flow) (p .key) (c .before .before .before .before .before .before .before .before .before .is-beside .ensures) (c .before .before .before .before .before .before .before .before .if3 .taken) (c .before .before .before .before .before .before .put-pad .ensures) (c .before .before .line .ensures))
+
+pub put-value-put-apart-requires : (t : ℕ) → put-value-lts.Need-put-apart-requires (put-value-claims t) (put-value-at t) put-value.Post
+put-value-put-apart-requires t c κs = let p = (c .before .before .before .before .before .before .before .before .before .before .before .before .pre) .1 in let r = p .ready in let g = spot-good _ _ _ (r .here) (r .deck-small) (c .before .before .before .before .before .before .before .before .spot-at .ensures) in let e = c .before .before .before .step-of .ensures .1 (r .step) in (in-line p _ _ (g .1) (g .2) (omega (arith, e)), g .0, few-spot _ (λ k. omega (arith, c .before .before .before .before .before .before .before .before .before .before .before .shared-slice-known .given k)) _ _ (r .here) (c .before .before .before .before .before .before .before .before .spot-at .ensures), p .flow, p .key, sym (c .before .before .is-beside .ensures) ∙ c .before .if3 .left)
+
+pub put-value-same-length-4 : (t : ℕ) → put-value-lts.Need-same-length-4 (put-value-claims t) (put-value-at t) put-value.Post
+put-value-same-length-4 t c = search needs
+
+pub put-value-returns-4 : (t : ℕ) → put-value-lts.Need-returns-4 (put-value-claims t) (put-value-at t) put-value.Post
+put-value-returns-4 t c = let r = (c .before .before .before .before .before .before .before .before .before .before .before .before .before .before .before .pre) .1 .ready in value-plain _ _ _ _ _ _ _ _ _ _ _ (r .here) (r .deck-small) (c .before .before .before .before .before .before .before .before .before .before .before .spot-at .ensures) (c .before .before .before .before .before .before .before .before .before .before .is-included .ensures) (c .before .before .before .before .before .before .before .before .before .if1 .left) (c .before .before .before .before .before .before .before .before .is-block .ensures) (c .before .before .before .before .before .before .before .if2 .left) (c .before .before .before .before .before .before .step-of .ensures .0) refl (c .before .before .put-apart .ensures)

@@ -268,8 +268,10 @@ lined-entry-claims t = (
   spot-at-reads.Learnt,
   put-lined-before-reads.Asked,
   put-lined-before-reads.Learnt,
-  flow-entry-below t,
-  flow-entry.Post,
+  entry-key-below t,
+  entry-key.Post,
+  line-below t,
+  line.Post,
   put-lined-after-reads.Asked,
   put-lined-after-reads.Learnt,
 )
