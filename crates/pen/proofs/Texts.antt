@@ -1,21 +1,52 @@
--- A text that has room is written at once: where its bytes are stored, and what the writer is then.
+-- A text is written at once, as far as it has room: where its bytes are stored, and what the writer is then.
 use mathlib.Core.Path.{_≡_, refl, sym, ap, _∙_}
 use Prim.Native.Nat.{ℕ, zero, suc, _+_, _-_, _<_, _≤_, min}
 use native.Mathlib.Omega.{arith}
 use native.Mathlib.Numerals.{add-one}
 use mathlib.Core.List.{[], _∷_}
-use lib.ListN.{length, getD, set, drop, replicate, length-set, length-replicate, getD-replicate}
-use lib.Seq.{sets, drop-cons, getD-set-other}
+use lib.ListN.{length, getD, set, take, drop, replicate, length-set, length-replicate, getD-replicate, List·getD-eq-default}
+use lib.Seq.{sets, drop-cons, take-nil, set-out, getD-set-other}
 use lib.Dec.{eqb, leb}
-use borrow.Author.Tests.{ne-eqb, leb-true}
-use mathlib.Core.Bool.{true}
+use borrow.Author.Tests.{ne-eqb, leb-true, leb-false, le-leb, lt-leb}
+use mathlib.Core.Bool.{Bool, true, false}
 use Rattle.definition.specs.Base.{Bytes, if_then_else_}
 use Rattle.pen.specs.declared.Writer.{Writer}
-use Rattle.pen.specs.Pen.{pen, columnAfter, columnOver, put1, puts}
+use Rattle.pen.specs.Pen.{Pen, pen, columnAfter, columnOver, put1, puts}
 
-pub enough : (len n room : ℕ) → (n ≡ 0 → ⊥) → len ≤ room → leb n (room - len) ≡ true → (0 < n) × (len + n ≤ room)
-enough len zero room n h e = absurd (n refl)
-enough len (suc k) room n h e = let l : suc k ≤ room - len = leb-true _ _ e in (omega arith, omega arith)
+-- ---- room
+
+-- n bytes fit into what is left of the room
+pub fit-same : (len n room : ℕ) → len ≤ room → leb n (room - len) ≡ leb (len + n) room
+fit-same len n room h = go (leb n (room - len)) refl
+  where
+    go : (b : Bool) → leb n (room - len) ≡ b → leb n (room - len) ≡ leb (len + n) room
+    go true e = let l = leb-true n (room - len) e in e ∙ sym (le-leb (len + n) room (omega (arith, l, h)))
+    go false e = let l = leb-false n (room - len) e in e ∙ sym (lt-leb (len + n) room (omega (arith, l, h)))
+
+pub roomy : (r : Bool) (n room : ℕ) → r ≡ leb n room → r ≡ true → n ≤ room
+roomy r n room e f = leb-true n room (sym e ∙ f)
+
+pub roomless : (r : Bool) (n room : ℕ) → r ≡ leb n room → r ≡ false → room < n
+roomless r n room e f = leb-false n room (sym e ∙ f)
+
+-- past the end nothing is stored
+pub sets-out : (l : Bytes) (i : ℕ) (t : Bytes) → length l ≤ i → sets l i t ≡ l
+sets-out l i [] h = refl
+sets-out l i (b ∷ t) h = let e : set l i b ≡ l = set-out l i b h in rw e (sets-out l (suc i) t (omega (arith, h)))
+
+-- so it does to store what has room
+pub sets-part : (t l : Bytes) (i k : ℕ) → i + k ≡ length l → sets l i (take k t) ≡ sets l i t
+sets-part [] l i k e = ap (sets l i) (take-nil k)
+sets-part (b ∷ t) l i zero e = sym (sets-out l i (b ∷ t) (omega (arith, e)))
+sets-part (b ∷ t) l i (suc k) e = sets-part t (set l i b) (suc i) k (rw (length-set l i b) (omega (arith, e)))
+
+take-again : (k n b : ℕ) → k ≤ n → take k (replicate n b) ≡ replicate k b
+take-again zero n b h = refl
+take-again (suc k) zero b h = absurd (omega (arith, h))
+take-again (suc k) (suc n) b h = ap (λ (l : Bytes). b ∷ l) (take-again k n b (omega (arith, h)))
+
+pub fill-part : (b n : ℕ) (l : Bytes) (i k : ℕ) → i + k ≡ length l → k ≤ n → sets l i (replicate k b) ≡ sets l i (replicate n b)
+fill-part b n l i k e h = ap (sets l i) (sym (take-again k n b h)) ∙ sets-part (replicate n b) l i k e
 
 -- ---- storing, byte by byte
 
@@ -78,32 +109,61 @@ moved w n b u c =
 same : (w : Writer) {n n′ b b′ u u′ c c′ : ℕ} {o o′ : Bytes} → n ≡ n′ → b ≡ b′ → u ≡ u′ → c ≡ c′ → o ≡ o′ → pen (moved w n b u c) o ≡ pen (moved w n′ b′ u′ c′) o′
 same w e f g h i = rw (e, f, g, h, i)
 
-at-once : (t : Bytes) (w : Writer) (o : Bytes) → 0 < length t → w .len + length t ≤ length o
-    → pen (moved w (w .len + length t) (getD t (length t - 1) 0) (getD o (w .len + length t - 1) 0) (columnOver (w .tracks) (length o + 2) (w .column) t)) (sets o (w .len) t) ≡ puts t (pen w o)
+-- the place of the next byte, m, is one further, or past the end as the one before
+module _ (o : Bytes) (len b m : ℕ) (e : m ≡ min (len + 1) (length o + 2)) where
+  stored-on : (t : Bytes) → sets (set o len b) (suc len) t ≡ sets (set o len b) m t
+  stored-on t = go (leb len (length o + 1)) refl
+    where
+      go : (d : Bool) → leb len (length o + 1) ≡ d → sets (set o len b) (suc len) t ≡ sets (set o len b) m t
+      go true f = let g = leb-true len (length o + 1) f in let z : suc len ≡ m = omega (arith, e, g) in ap (λ (i : ℕ). sets (set o len b) i t) z
+      go false f =
+          let g = leb-false len (length o + 1) f in
+          let l = length-set o len b in
+          sets-out (set o len b) (suc len) t (omega (arith, g, l)) ∙ sym (sets-out (set o len b) m t (omega (arith, e, g, l)))
+
+  under-on : (k : ℕ) → 0 < k → getD o (len + suc k - 1) 0 ≡ getD (set o len b) (m + k - 1) 0
+  under-on k h = go (leb len (length o + 1)) refl
+    where
+      go : (d : Bool) → leb len (length o + 1) ≡ d → getD o (len + suc k - 1) 0 ≡ getD (set o len b) (m + k - 1) 0
+      go true f =
+          let g = leb-true len (length o + 1) f in
+          let z : m + k - 1 ≡ len + suc k - 1 = omega (arith, e, g) in
+          rw z (sym (getD-set-other o len (len + suc k - 1) b 0 (λ q. omega (arith, q, h))))
+      go false f =
+          let g = leb-false len (length o + 1) f in
+          let l = length-set o len b in
+          List·getD-eq-default o 0 (omega (arith, g)) ∙ sym (List·getD-eq-default (set o len b) 0 (omega (arith, e, g, l)))
+
+written : (t : Bytes) (w : Writer) (o : Bytes) → 0 < length t
+    → pen (moved w (min (w .len + length t) (length o + 2)) (getD t (length t - 1) 0) (getD o (w .len + length t - 1) 0) (columnOver (w .tracks) (length o + 2) (w .column) t)) (sets o (w .len) t) ≡ puts t (pen w o)
 unfolding puts put1 columnOver columnAfter
-at-once [] w o h r = absurd (omega arith)
-at-once (b ∷ []) w o h r = same w (omega arith) refl (ap (λ (k : ℕ). getD o k 0) (omega arith)) refl refl
-at-once (b ∷ c ∷ t) w o h r =
-    let n : min (w .len + 1) (length o + 2) ≡ suc (w .len) = omega arith in
+written [] w o h = absurd (omega arith)
+written (b ∷ []) w o h = same w (omega arith) refl (ap (λ (k : ℕ). getD o k 0) (omega arith)) refl refl
+written (b ∷ c ∷ t) w o h =
+    let m : ℕ = min (w .len + 1) (length o + 2) in
     let l : length (set o (w .len) b) ≡ length o = length-set o (w .len) b in
     same w
-    (rw n (omega arith))
+    (rw l (omega arith))
     (let e : length (b ∷ c ∷ t) - 1 ≡ suc (length (c ∷ t) - 1) = omega arith in rw e refl)
-    (rw n (let e : suc (w .len) + length (c ∷ t) - 1 ≡ w .len + length (b ∷ c ∷ t) - 1 = omega arith in rw e (sym (getD-set-other o (w .len) _ b 0 (λ e. omega arith)))))
+    (under-on o (w .len) b m refl (length (c ∷ t)) (omega arith))
     (rw l refl)
-    (rw n refl)
-    ∙ at-once (c ∷ t) (put1 (pen w o) b .w) (set o (w .len) b) (omega arith) (rw (n, l) (omega arith))
+    (stored-on o (w .len) b m refl (c ∷ t))
+    ∙ written (c ∷ t) (put1 (pen w o) b .w) (set o (w .len) b) (omega arith)
 
-pub text-written : (t : Bytes) (w : Writer) (o : Bytes) (b u c : ℕ) (o′ : Bytes) → 0 < length t → w .len + length t ≤ length o
-    → b ≡ getD t (length t - 1) 0 → u ≡ getD o (w .len + length t - 1) 0 → c ≡ columnOver (w .tracks) (length o + 2) (w .column) t → o′ ≡ sets o (w .len) t
-    → pen (moved w (w .len + length t) b u c) o′ ≡ puts t (pen w o)
-text-written t w o b u c o′ h r eb eu ec eo = same w refl eb eu ec eo ∙ at-once t w o h r
+pub no-text : (t : Bytes) (p : Pen) → length t ≡ 0 → p ≡ puts t p
+unfolding puts
+no-text [] p e = refl
+no-text (b ∷ t) p e = absurd (omega arith)
 
-pub again-written : (a n : ℕ) (w : Writer) (o : Bytes) (b u c : ℕ) (o′ : Bytes) → 0 < n → w .len + n ≤ length o
-    → b ≡ a → u ≡ getD o (w .len + n - 1) 0 → c ≡ columnOver (w .tracks) (length o + 2) (w .column) (replicate n a) → o′ ≡ sets o (w .len) (replicate n a)
-    → pen (moved w (w .len + n) b u c) o′ ≡ puts (replicate n a) (pen w o)
-again-written a n w o b u c o′ h r eb eu ec eo =
-    let l : length (replicate n a) ≡ n = length-replicate n a in
-    let g : getD (replicate n a) (n - 1) 0 ≡ a = getD-replicate n (n - 1) a 0 (omega arith) in
-    same w (ap (λ (k : ℕ). w .len + k) (sym l)) refl refl refl refl
-    ∙ text-written (replicate n a) w o b u c o′ (rw l h) (rw l r) (rw l (eb ∙ sym g)) (rw l eu) ec eo
+pub text-written : (t : Bytes) (w : Writer) (o : Bytes) (n b u c : ℕ) (o′ : Bytes) → 0 < length t
+    → n ≡ min (w .len + length t) (length o + 2) → b ≡ getD t (length t - 1) 0 → u ≡ getD o (w .len + length t - 1) 0 → c ≡ columnOver (w .tracks) (length o + 2) (w .column) t → o′ ≡ sets o (w .len) t
+    → pen (moved w n b u c) o′ ≡ puts t (pen w o)
+text-written t w o n b u c o′ h en eb eu ec eo = same w en eb eu ec eo ∙ written t w o h
+
+pub again-written : (a k : ℕ) (w : Writer) (o : Bytes) (n b u c : ℕ) (o′ : Bytes) → 0 < k
+    → n ≡ min (w .len + k) (length o + 2) → b ≡ a → u ≡ getD o (w .len + k - 1) 0 → c ≡ columnOver (w .tracks) (length o + 2) (w .column) (replicate k a) → o′ ≡ sets o (w .len) (replicate k a)
+    → pen (moved w n b u c) o′ ≡ puts (replicate k a) (pen w o)
+again-written a k w o n b u c o′ h en eb eu ec eo =
+    let l : length (replicate k a) ≡ k = length-replicate k a in
+    let g : getD (replicate k a) (k - 1) 0 ≡ a = getD-replicate k (k - 1) a 0 (omega (arith, h)) in
+    text-written (replicate k a) w o n b u c o′ (rw l h) (rw l en) (rw l (eb ∙ sym g)) (rw l eu) ec eo

@@ -1,11 +1,10 @@
 // The pen: a writer by value over a lent slice. It stores only inside the room, and counts two past it at most, so that whether the
 // finished bytes fit is known also where the last line break is dropped again.
 ghost use mathlib.Core.Path.{_≡_};
-ghost use Prim.Native.Nat.{_+_, _<_, _≤_, _^_, min, max};
-ghost use lib.ListN.{length, replicate};
+ghost use Prim.Native.Nat.{_+_, _-_, _<_, _≤_, _^_, min, max};
+ghost use lib.ListN.{length, getD, replicate};
 ghost use lib.Seq.{sets};
-ghost use mathlib.Core.Bool.{Bool, true};
-ghost use lib.Dec.{eqb};
+ghost use lib.Dec.{eqb, leb};
 ghost use Rattle.definition.specs.Base.{if_then_else_, spaces};
 ghost use Rattle.definition.specs.Pen.{hashed, endsClosed};
 ghost use Rattle.pen.specs.Pen.{pen, put1, puts, columnAfter, columnOver, lineEnded, noted, rawed, unput, ended};
@@ -89,17 +88,38 @@ fn column_again(tracks: usize, column: usize, most: usize, b: u8, n: usize) -> u
     c
 }
 
-// Whether `n` bytes, at least one, fit from `len` on.
+// Whether `n` bytes have room from `len` on.
 fn has_room(len: usize, n: usize, room: usize) -> bool
-    ensures { λ r. ⌜ (r ≡ true → (0 < n) × (len + n ≤ room)) ⌝ }
+    ensures { λ r. ⌜ r ≡ leb (len + n) room ⌝ }
 {
-    if n == 0 {
-        return false;
-    }
-    if len > room {
+    if room < len {
         return false;
     }
     n <= room - len
+}
+
+// The count after `n` bytes more, never more than `most`.
+fn end_of(len: usize, n: usize, most: usize) -> usize
+    ensures { λ r. ⌜ r ≡ min (len + n) most ⌝ }
+{
+    if most <= len {
+        return most;
+    }
+    if most - len <= n {
+        return most;
+    }
+    len + n
+}
+
+// What the last of `n` bytes from `len` on is put over: 0 past the room.
+fn under_last(out: &[u8], len: usize, n: usize) -> usize
+    requires { ⌜ 0 < n ⌝ }
+    ensures { λ r. ⌜ r ≡ getD (now (out .entry)) (len + n - 1) 0 ⌝ }
+{
+    if has_room(len, n, out.len()) {
+        return wide(out[len + n - 1]);
+    }
+    0
 }
 
 // Copies a text to a place.
@@ -123,6 +143,36 @@ fn fill(out: &mut [u8], at: usize, b: u8, n: usize)
     while i < n {
         out[at + i] = b;
         i += 1;
+    }
+}
+
+// Copies a text to a place, as far as there is room.
+fn store(out: &mut [u8], at: usize, t: &[u8])
+    requires { ⌜ length (now out) < 2 ^ 62 ⌝ }
+    ensures { λ r. ⌜ now (out .exit) ≡ sets (now (out .entry)) at (now (t .entry)) ⌝ }
+{
+    if has_room(at, t.len(), out.len()) {
+        copy_to(out, at, t);
+        return;
+    }
+    if at < out.len() {
+        let k = out.len() - at;
+        copy_to(out, at, &t[..k]);
+    }
+}
+
+// Stores one byte again and again from a place, as far as there is room.
+fn store_again(out: &mut [u8], at: usize, b: u8, n: usize)
+    requires { ⌜ length (now out) < 2 ^ 62 ⌝ }
+    ensures { λ r. ⌜ now (out .exit) ≡ sets (now (out .entry)) at (replicate n b) ⌝ }
+{
+    if has_room(at, n, out.len()) {
+        fill(out, at, b, n);
+        return;
+    }
+    if at < out.len() {
+        let k = out.len() - at;
+        fill(out, at, b, k);
     }
 }
 
@@ -174,84 +224,40 @@ impl Writer {
         self
     }
 
-    // A text that has room.
-    fn text_at_once(mut self, out: &mut [u8], t: &[u8]) -> Self
-        requires { ⌜ (0 < length (now t)) × (self .len + length (now t) ≤ length (now out)) × (length (now out) < 2 ^ 62) ⌝ }
+    pub fn text(mut self, out: &mut [u8], t: &[u8]) -> Self
+        requires { ⌜ length (now out) < 2 ^ 62 ⌝ }
         ensures { λ r. ⌜ pen r (now (out .exit)) ≡ puts (now (t .entry)) (pen self (now (out .entry))) ⌝ }
     {
-        let len = self.len;
         let n = t.len();
-        let end = len + n;
-        self.column = column_over(self.tracks, self.column, out.len() + 2, t);
+        if n == 0 {
+            return self;
+        }
+        let len = self.len;
+        let most = out.len() + 2;
+        self.column = column_over(self.tracks, self.column, most, t);
         self.last = wide(t[n - 1]);
-        self.under = wide(out[end - 1]);
-        self.len = end;
-        copy_to(out, len, t);
+        self.under = under_last(out, len, n);
+        self.len = end_of(len, n, most);
+        store(out, len, t);
         self
-    }
-
-    // A text byte by byte.
-    fn text_by_bytes(self, out: &mut [u8], t: &[u8]) -> Self
-        requires { ⌜ length (now out) < 2 ^ 62 ⌝ }
-        ensures { λ r. ⌜ pen r (now (out .exit)) ≡ puts (now (t .entry)) (pen self (now (out .entry))) ⌝ }
-    {
-        let mut w = self;
-        let mut i = 0;
-        while i < t.len() {
-            w = w.byte(out, t[i]);
-            i += 1;
-        }
-        w
-    }
-
-    pub fn text(self, out: &mut [u8], t: &[u8]) -> Self
-        requires { ⌜ length (now out) < 2 ^ 62 ⌝ }
-        ensures { λ r. ⌜ pen r (now (out .exit)) ≡ puts (now (t .entry)) (pen self (now (out .entry))) ⌝ }
-    {
-        let n = t.len();
-        if has_room(self.len, n, out.len()) {
-            return self.text_at_once(out, t);
-        }
-        self.text_by_bytes(out, t)
-    }
-
-    // One byte again and again, where there is room.
-    fn again_at_once(mut self, out: &mut [u8], b: u8, n: usize) -> Self
-        requires { ⌜ (0 < n) × (self .len + n ≤ length (now out)) × (length (now out) < 2 ^ 62) ⌝ }
-        ensures { λ r. ⌜ pen r (now (out .exit)) ≡ puts (replicate n b) (pen self (now (out .entry))) ⌝ }
-    {
-        let len = self.len;
-        let end = len + n;
-        self.column = column_again(self.tracks, self.column, out.len() + 2, b, n);
-        self.last = wide(b);
-        self.under = wide(out[end - 1]);
-        self.len = end;
-        fill(out, len, b, n);
-        self
-    }
-
-    fn again_by_bytes(self, out: &mut [u8], b: u8, n: usize) -> Self
-        requires { ⌜ length (now out) < 2 ^ 62 ⌝ }
-        ensures { λ r. ⌜ pen r (now (out .exit)) ≡ puts (replicate n b) (pen self (now (out .entry))) ⌝ }
-    {
-        let mut w = self;
-        let mut left = n;
-        while left > 0 {
-            w = w.byte(out, b);
-            left -= 1;
-        }
-        w
     }
 
     // One byte again and again.
-    pub fn again(self, out: &mut [u8], b: u8, n: usize) -> Self
+    pub fn again(mut self, out: &mut [u8], b: u8, n: usize) -> Self
         requires { ⌜ length (now out) < 2 ^ 62 ⌝ }
         ensures { λ r. ⌜ pen r (now (out .exit)) ≡ puts (replicate n b) (pen self (now (out .entry))) ⌝ }
     {
-        if has_room(self.len, n, out.len()) {
-            return self.again_at_once(out, b, n);
+        if n == 0 {
+            return self;
         }
-        self.again_by_bytes(out, b, n)
+        let len = self.len;
+        let most = out.len() + 2;
+        self.column = column_again(self.tracks, self.column, most, b, n);
+        self.last = wide(b);
+        self.under = under_last(out, len, n);
+        self.len = end_of(len, n, most);
+        store_again(out, len, b, n);
+        self
     }
 
     pub fn spaces(self, out: &mut [u8], n: usize) -> Self

@@ -301,10 +301,14 @@ fn measure(subject: &Subject, time: Duration) {
     // What is written may be gigabytes: then the call is refused for want of room, and one turn is enough.
     let huge = written > 100 * MOST_OUTPUT;
     let mut output = vec![0u8; written.min(MOST_OUTPUT)];
-    // One document more than a one-document call takes: it judges and refuses.
-    let mut two = deck.deck.clone();
-    two.push(0x20);
-    let judges = archive::has(&Call::EmitRoundtrip) && built.is_ok() && two.len() <= MOST_DECK;
+    // One document more than a one-document call takes: it judges and refuses. A deck that is full has a byte less instead: it is judged to its end.
+    let mut judged = deck.deck.clone();
+    if judged.len() < MOST_DECK {
+        judged.push(0x20);
+    } else {
+        judged.pop();
+    }
+    let judges = archive::has(&Call::EmitRoundtrip) && built.is_ok();
     let mut best = [f64::INFINITY; 4];
     let begun = Instant::now();
     let mut turns = 0;
@@ -321,8 +325,8 @@ fn measure(subject: &Subject, time: Duration) {
         if judges {
             best[1] = best[1].min(timed(inner, || {
                 let call = &Call::EmitRoundtrip;
-                let answer = archive::answer(call, &two, &deck.pool, &mut [], &mut []);
-                assert_eq!(black_box(answer.number), 8, "{name}");
+                let answer = archive::answer(call, &judged, &deck.pool, &mut [], &mut []);
+                assert!(matches!(black_box(answer.number), 7 | 8), "{name}");
             }));
         }
         if let Ok(documents) = &built {

@@ -1,44 +1,49 @@
 -- `pen::Writer::again` meets its contract.
+use native.Mathlib.Omega.{arith}
+use Rattle.pen.specs.Pen.{puts}
+use Rattle.pen.proofs.Texts.{again-written}
 use borrow.Author.Needs.{needs}
 use Rattle.pen.proofs.Writer.again.Statement.{statement}
 use Rattle.pen.proofs.Writer.again.Tie as tie
 
--- src/lib.rt:236:12
-has-room-requires : tie.Need-has-room-requires
-has-room-requires c κs = search needs
+returns : tie.Need-returns
+unfolding puts
+returns c = rw (c .if1 .taken)
 
--- src/lib.rt:237:13
-again-at-once-requires : tie.Need-again-at-once-requires
-again-at-once-requires c κs = let h = c .before .before .has-room .ensures (c .before .if1 .taken) in (h .0, h .1, search needs)
+add-most : tie.Need-add-most
+add-most c = search needs
 
--- src/lib.rt:237:13
+column-again-requires : tie.Need-column-again-requires
+column-again-requires c κs = search needs
+
+wide-requires : tie.Need-wide-requires
+wide-requires c κs = search needs
+
+under-last-requires : tie.Need-under-last-requires
+under-last-requires c κs = search needs
+
+end-of-requires : tie.Need-end-of-requires
+end-of-requires c κs = search needs
+
+store-again-requires : tie.Need-store-again-requires
+store-again-requires c κs = search needs
+
 same-length : tie.Need-same-length
 same-length c = search needs
 
--- src/lib.rt:237:13
-returns : tie.Need-returns
-returns c = search needs
-
--- src/lib.rt:239:9
-again-by-bytes-requires : tie.Need-again-by-bytes-requires
-again-by-bytes-requires c κs = search needs
-
--- src/lib.rt:232:5
-same-length-2 : tie.Need-same-length-2
-same-length-2 c = search needs
-
--- src/lib.rt:232:5
 returns-2 : tie.Need-returns-2
-returns-2 c = search needs
+returns-2 c = again-written (c .before .before .before .before .before .before .before .before .before .before .before .args .b) (c .before .before .before .before .before .before .before .before .before .before .before .args .n) (c .before .before .before .before .before .before .before .before .before .before .before .args .self) (c .before .before .before .before .before .before .before .before .before .before .before .args .out .now) _ _ _ _ _ (let h = c .before .before .before .before .before .before .before .before .before .if1 .left in omega (arith, h)) (c .before .before .before .before .end-of .ensures) (c .before .before .before .before .before .before .before .wide .ensures) (c .before .before .before .before .before .under-last .ensures) (c .before .before .before .before .before .before .before .before .column-again .ensures) (c .before .before .store-again .ensures)
 
 pub again-spec : {M : Type 1} → statement M
 again-spec =
     tie.close
     (tie.spec
-    has-room-requires
-    again-at-once-requires
-    same-length
     returns
-    again-by-bytes-requires
-    same-length-2
+    add-most
+    column-again-requires
+    wide-requires
+    under-last-requires
+    end-of-requires
+    store-again-requires
+    same-length
     returns-2)

@@ -1,44 +1,55 @@
 -- `pen::Writer::text` meets its contract.
+use native.Mathlib.Omega.{arith}
+use Rattle.pen.proofs.Texts.{no-text, text-written}
 use borrow.Author.Needs.{needs}
 use Rattle.pen.proofs.Writer.text.Statement.{statement}
 use Rattle.pen.proofs.Writer.text.Tie as tie
 
--- src/lib.rt:197:12
-has-room-requires : tie.Need-has-room-requires
-has-room-requires c κs = search needs
+returns : tie.Need-returns
+returns c = no-text (c .before .before .before .args .t .now) _ (c .if1 .taken)
 
--- src/lib.rt:198:13
-text-at-once-requires : tie.Need-text-at-once-requires
-text-at-once-requires c κs = let h = c .before .before .has-room .ensures (c .before .if1 .taken) in (h .0, h .1, search needs)
+add-most : tie.Need-add-most
+add-most c = search needs
 
--- src/lib.rt:198:13
+column-over-requires : tie.Need-column-over-requires
+column-over-requires c κs = search needs
+
+sub-wide : tie.Need-sub-wide
+sub-wide c = search needs
+
+shared-slice-read-wide : tie.Need-shared-slice-read-wide
+shared-slice-read-wide c = search needs
+
+wide-requires : tie.Need-wide-requires
+wide-requires c κs = search needs
+
+under-last-requires : tie.Need-under-last-requires
+under-last-requires c κs = search needs
+
+end-of-requires : tie.Need-end-of-requires
+end-of-requires c κs = search needs
+
+store-requires : tie.Need-store-requires
+store-requires c κs = search needs
+
 same-length : tie.Need-same-length
 same-length c = search needs
 
--- src/lib.rt:198:13
-returns : tie.Need-returns
-returns c = search needs
-
--- src/lib.rt:200:9
-text-by-bytes-requires : tie.Need-text-by-bytes-requires
-text-by-bytes-requires c κs = search needs
-
--- src/lib.rt:192:5
-same-length-2 : tie.Need-same-length-2
-same-length-2 c = search needs
-
--- src/lib.rt:192:5
 returns-2 : tie.Need-returns-2
-returns-2 c = search needs
+returns-2 c = text-written (c .before .before .before .before .before .before .before .before .before .before .before .before .before .args .t .now) (c .before .before .before .before .before .before .before .before .before .before .before .before .before .args .self) (c .before .before .before .before .before .before .before .before .before .before .before .before .before .args .out .now) _ _ _ _ _ (let h = c .before .before .before .before .before .before .before .before .before .before .if1 .left in omega (arith, h)) (c .before .before .before .before .end-of .ensures) (c .before .before .before .before .before .before .before .wide .ensures) (c .before .before .before .before .before .under-last .ensures) (c .before .before .before .before .before .before .before .before .before .column-over .ensures) (c .before .before .store .ensures)
 
 pub text-spec : {M : Type 1} → statement M
 text-spec =
     tie.close
     (tie.spec
-    has-room-requires
-    text-at-once-requires
-    same-length
     returns
-    text-by-bytes-requires
-    same-length-2
+    add-most
+    column-over-requires
+    sub-wide
+    shared-slice-read-wide
+    wide-requires
+    under-last-requires
+    end-of-requires
+    store-requires
+    same-length
     returns-2)
