@@ -173,7 +173,7 @@ fn put_key(
         let e = put_question(w1, deck, pool, out, settings, x, i);
         return with_colon(e, out, i);
     }
-    flow::line(w, deck, pool, out, settings, x, i, Manner::Key)
+    flow::line(w, deck, pool, out, settings, x, i, Manner::Key, false)
 }
 
 // The key of `emit_explicit_key_pair`, after the `?` at column i.
@@ -224,7 +224,7 @@ fn put_value(
     let j = i + choices::step_of(settings);
     if layout::is_beside(settings, pool, x) {
         let w1 = layout::put_pad(w, out, x.lead.lines.pad);
-        return flow::line(w1, deck, pool, out, settings, x, j, Manner::Value);
+        return flow::line(w1, deck, pool, out, settings, x, j, Manner::Value, false);
     }
     layout::put_apart(w, deck, pool, out, settings, x, j)
 }
@@ -254,7 +254,7 @@ fn put_dash(
     let j = i + 2;
     if layout::is_beside(settings, pool, x) {
         let w2 = layout::put_pad(w1, out, x.lead.lines.pad);
-        return flow::line(w2, deck, pool, out, settings, x, j, Manner::Value);
+        return flow::line(w2, deck, pool, out, settings, x, j, Manner::Value, false);
     }
     layout::put_apart(w1, deck, pool, out, settings, x, j)
 }

@@ -16,6 +16,7 @@ use Rattle.node.specs.Comments.{commented}
 use Rattle.node.specs.Ends.{Ends}
 use Rattle.node.specs.Head.{headAt}
 use Rattle.node.specs.Total.{treeAt}
+use Rattle.node.specs.Loud.{someOf}
 use Rattle.spot.specs.Spot.{spotOf, spotAt, tree-value}
 use Rattle.choices.specs.Choices.{comments-is}
 use Rattle.choices.specs.Siblings.{someFrom, Some, SomeItems, SomePairs, some-items, some-pairs}
@@ -43,7 +44,7 @@ module _ (deck : Bytes) (left : ℕ) (here : Cursor) (n : ℕ) (c : Cursor) wher
   from-here :
       (pool : Bytes) {r : Bool} → 0 < left → here .at ≤ length deck → r ≡ commented (headAt deck here .lead)
       → someFrom deck pool left here ≡ (r || someFrom deck pool (left - 1) (treeAt deck pool here .next))
-  unfolding someFrom
+  unfolding someFrom someOf
   from-here pool {r} l k e = go left l
     where
       go : (m : ℕ) → 0 < m → someFrom deck pool m here ≡ (r || someFrom deck pool (m - 1) (treeAt deck pool here .next))
@@ -59,11 +60,11 @@ module _ (deck : Bytes) (left : ℕ) (here : Cursor) (n : ℕ) (c : Cursor) wher
   passed l k e f d h = record { same = λ pool. rw (d .tree pool) (sym (rw f at (from-here pool l k e)) ∙ h .same pool) }
 
   pub last : (r : Bool) → left ≡ 1 → here .at ≤ length deck → r ≡ commented (headAt deck here .lead) → Same deck left here n c → Some deck c n r
-  unfolding someFrom
+  unfolding someFrom someOf
   last r o k e h = let l : 0 < left = omega arith in let z : left - 1 ≡ 0 = omega arith in record { told = λ pool. or-none r ∙ sym (rw z at (from-here pool l k e)) ∙ h .same pool }
 
 pub none : (deck : Bytes) (c : Cursor) (n : ℕ) → n ≡ 0 → Some deck c n false
-unfolding someFrom
+unfolding someFrom someOf
 none deck c n z = record { told = λ pool. rw z }
 
 twice-is : (n : ℕ) → 2 * n ≡ twice n

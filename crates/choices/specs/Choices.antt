@@ -21,9 +21,9 @@ use Rattle.node.specs.declared.Held.{Held}
 use Rattle.node.specs.declared.Lead.{Lead}
 use Rattle.node.specs.declared.Origin.{Origin}
 use Rattle.node.specs.declared.Remark.{Remark}
-use Rattle.node.specs.Comments.{commented}
+use Rattle.node.specs.Comments.{commented, comments-are}
 use Rattle.definition.specs.Records.{includeAt}
-use Rattle.node.specs.Total.{Got, keptOf, broughtOf, originOf, runFrom, itemsFrom, pairsFrom, treeAt}
+use Rattle.node.specs.Total.{Got, keptOf, broughtOf, originOf, itemsFrom, pairsFrom, treeAt}
 use Rattle.parts.specs.Runs.{hasHeld, held-some, has-props-is}
 use Rattle.spot.specs.declared.Body.{Body}
 use Rattle.spot.specs.declared.Body.the-variants.{Null, Scalar, Alias, Sequence, Mapping}
@@ -115,11 +115,6 @@ module _ (deck pool : Bytes) where
 
 -- ---- comments, includes, keys
 
-some-run : {A : Type 0} (e : Cursor → A) (s n : ℕ) (c : Cursor) → not (isNil (runFrom e s n c)) ≡ on n
-unfolding isNil runFrom on
-some-run e s zero c = refl
-some-run e s (suc n) c = sym (on-suc n)
-
 unfoldable pub needsIn : Lines → Body → Bool
 needsIn l Null = false
 needsIn l (Scalar w) = marked (l .marks) 16 || isBlockStyle (w .style)
@@ -135,8 +130,8 @@ includedIn o = on (o .at)
 
 module _ (deck pool : Bytes) where
   pub comments-is : (x : Spot) → hasComments (nodeIn deck pool x) ≡ commented (x .lead)
-  unfolding hasComments nodeIn keptOf commented on
-  comments-is x = rw (some-run, some-run, remark-some)
+  unfolding nodeIn
+  comments-is x = comments-are deck pool (x .place) (x .lead) _ _
 
   needs-is : (l : Lead) (b : Body) (c : Cursor) → needsExplicit (keptOf deck pool l) (kindOf deck pool b c) ≡ needsIn (l .lines) b
   unfolding needsExplicit kindOf keptOf layoutOf needsIn

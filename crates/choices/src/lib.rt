@@ -369,7 +369,7 @@ pub fn bare_root(
 
 // Some of n nodes that stand one after another have comments. Where the last one ends is not looked for.
 fn some_comments(deck: &[u8], c: Cursor, n: usize) -> bool
-    requires { ⌜ c .at ≤ length (now deck) ⌝ }
+    requires { ⌜ (c .at ≤ length (now deck)) × (length (now deck) ≤ 65536) ⌝ }
     ensures { λ r. ⌜ Some (now (deck .entry)) c n r ⌝ }
 {
     if n == 0 {

@@ -8,7 +8,7 @@ use native.Mathlib.Omega.{arith}
 use lib.Dec.{T, eqb, ltb, eqb→eq}
 use borrow.Author.Tests.{ne-eqb, ltb-true, ltb-false, le-leb, lt-leb}
 use Rattle.definition.specs.Base.{Bytes, if_then_else_, within}
-use Rattle.definition.specs.Records.{kindAt, recordOf, recordAt}
+use Rattle.definition.specs.Records.{kindAt, recordOf, recordAt, sizeOf}
 use Rattle.definition.specs.Deck.{isNode}
 use Rattle.definition.specs.declared.Cursor.{Cursor}
 use Rattle.definition.specs.declared.Record.{Record}
@@ -76,6 +76,17 @@ alike-is true false t = absurd t
 alike-is false true t = absurd t
 alike-is false false t = refl
 
+second : (x y : Bool) → x ≡ false → T (x || y) → T y
+second true y p t = let z : _≡_ {A = ℕ} 0 1 = cc in absurd (omega arith)
+second false y p t = t
+
+positive : (n : ℕ) → T (ltb 0 n) → 0 < n
+positive n t = ltb-true 0 n (alike-is (ltb 0 n) true (go (ltb 0 n) t))
+  where
+    go : (b : Bool) → T b → T (alike b true)
+    go true u = tt
+    go false u = u
+
 third : (x y : Bool) (n : ℕ) → x ≡ false → y ≡ false → T (x || y || eqb n 0) → n ≡ 0
 third true y n p q t = let z : _≡_ {A = ℕ} 0 1 = cc in absurd (omega arith)
 third false true n p q t = let z : _≡_ {A = ℕ} 0 1 = cc in absurd (omega arith)
@@ -129,3 +140,12 @@ module _ (deck : Bytes) (at k : ℕ) where
       (λ h. third (eqb k 0x23) (eqb k 0x24) (kidsOf (recordOf k deck at)) (ne-eqb k 0x23 p) (ne-eqb k 0x24 q)
       (all (λ n. eqb n 0x23 || eqb n 0x24 || eqb (kidsOf (recordOf n deck at)) 0) 0x25 tt k h))
       (λ h. ap kidsOf (beyond h))
+
+  -- a leading record has a kind and bytes
+  pub lead-sized : isNode (recordOf k deck at) ≡ false → (0 < k) × (0 < sizeOf k)
+  unfolding isNode recordOf sizeOf
+  lead-sized e =
+      by-kind
+      (λ h. let t = second (isNode (recordOf k deck at)) (ltb 0 k && ltb 0 (sizeOf k)) e (all (λ n. isNode (recordOf n deck at) || (ltb 0 n && ltb 0 (sizeOf n))) 0x25 tt k h) in
+      (positive k (both-left (ltb 0 k) (ltb 0 (sizeOf k)) t), positive (sizeOf k) (both-right (ltb 0 k) (ltb 0 (sizeOf k)) t)))
+      (λ h. let f : isNode is.Null ≡ false = rw (beyond h) at e in let z : _≡_ {A = ℕ} 0 1 = cc in absurd (omega arith))

@@ -2,23 +2,20 @@
 use mathlib.Core.Path.{_≡_, refl, sym, ap, _∙_}
 use Prim.Native.Nat.{ℕ, zero, suc, _+_, _-_, _<_, _≤_}
 use native.Mathlib.Omega.{arith}
-use mathlib.Core.Bool.{Bool, true, false, not, true≢false}
+use mathlib.Core.Bool.{Bool, true, false}
 use mathlib.Core.List.{List, [], _∷_, _++_, append-assoc}
-use lib.ListN.{length, List·getD-eq-default}
+use lib.ListN.{length}
 use lib.Dec.{leb, ltb}
-use borrow.Author.Tests.{ltb-true, ltb-false, leb-true, lt-leb}
-use Rattle.definition.specs.Base.{Bytes, if_then_else_, within}
-use Rattle.definition.specs.Records.{byteAt, kindAt, recordAt, sizeOf, past}
+use borrow.Author.Tests.{ltb-true, ltb-false, leb-true}
+use Rattle.definition.specs.Base.{Bytes, if_then_else_}
+use Rattle.definition.specs.Records.{recordAt}
 use Rattle.definition.specs.Tree.{kept}
 use Rattle.definition.specs.Deck.{isNode}
 use Rattle.definition.specs.Change.{Boundary, ownBoundary, boundaries, boundariesIn, boundariesItems, boundariesPairs, boundariesAll}
 use Rattle.definition.specs.declared.Cursor.{Cursor}
-use Rattle.deck.specs.Next.{nextOf}
-use Rattle.deck.specs.Kids.{node-kind}
-use Rattle.node.specs.declared.Lead.{Lead}
-use Rattle.node.specs.Head.{noLead, headed, headFrom, headAt, ownFrom}
+use Rattle.node.specs.Head.{noLead, headed, headAt}
 use Rattle.node.specs.Total.{keptOf, originOf, itemsFrom, pairsFrom, treeAt, treesFrom, treesOf}
-use Rattle.node.specs.Fuel.{nexts, tree-moves, tree-next, head-at-onward, next-within, own-is}
+use Rattle.node.specs.Fuel.{nexts, tree-moves, tree-next, head-at-onward, head-own, own-further}
 use Rattle.spot.specs.declared.Body.{Body}
 use Rattle.spot.specs.declared.Body.the-variants as body
 use Rattle.spot.specs.Spot.{spotOf, spotAt, kindOf, endOf, nodeIn, tree-value, tree-end}
@@ -49,90 +46,13 @@ module _ (deck pool : Bytes) where
   unfolding stepAt
   step-onward c k = let o = head-at-onward deck c k in (omega (arith, o .ahead, o .beyond), o .within)
 
-  next-onward : (c : Cursor) → c .at ≤ length deck → c .at ≤ nextOf deck c .at
-  unfolding nextOf past
-  next-onward c k = omega arith
-
-  own-onward : (n : ℕ) (c : Cursor) → c .at ≤ length deck → c .at ≤ ownFrom deck n c .at
-  unfolding ownFrom
-  own-onward zero c k = omega arith
-  own-onward (suc n) c k = go (isNode (recordAt deck c)) (own-onward n (nextOf deck c) (next-within deck c))
-    where
-      go : (b : Bool) → nextOf deck c .at ≤ ownFrom deck n (nextOf deck c) .at → c .at ≤ (if b then c else ownFrom deck n (nextOf deck c)) .at
-      go true h = omega arith
-      go false h = let l = next-onward c k in omega (arith, h, l)
-
-  past-nine : (k : ℕ) → 9 < k → within 1 9 k ≡ true → ⊥
-  unfolding within
-  past-nine k l e = true≢false (sym (both (leb 1 k) (leb k 9) e) ∙ lt-leb _ _ l)
-    where
-      both : (a b : Bool) → (if a then b else false) ≡ true → b ≡ true
-      both true b h = h
-      both false b h = absurd (true≢false (sym h))
-
-  -- a leading record is some bytes long
-  sized : (k : ℕ) → within 1 9 k ≡ true → 0 < sizeOf k
-  unfolding within sizeOf
-  sized zero e = absurd (true≢false (sym e))
-  sized (suc zero) e = omega arith
-  sized (suc (suc zero)) e = omega arith
-  sized (suc (suc (suc zero))) e = omega arith
-  sized (suc (suc (suc (suc zero)))) e = omega arith
-  sized (suc (suc (suc (suc (suc zero))))) e = omega arith
-  sized (suc (suc (suc (suc (suc (suc zero)))))) e = omega arith
-  sized (suc (suc (suc (suc (suc (suc (suc zero))))))) e = omega arith
-  sized (suc (suc (suc (suc (suc (suc (suc (suc zero)))))))) e = omega arith
-  sized (suc (suc (suc (suc (suc (suc (suc (suc (suc zero))))))))) e = omega arith
-  sized (suc (suc (suc (suc (suc (suc (suc (suc (suc (suc k)))))))))) e = absurd (past-nine (suc (suc (suc (suc (suc (suc (suc (suc (suc (suc k)))))))))) (omega arith) e)
-
-  -- and it stands in the deck
-  lead-within : (c : Cursor) → isNode (recordAt deck c) ≡ false → within 1 9 (kindAt deck c) ≡ true
-  unfolding recordAt
-  lead-within c e = go (within 1 9 (kindAt deck c)) (sym (node-kind deck (c .at + 1) (kindAt deck c)) ∙ e)
-    where
-      go : (b : Bool) → not b ≡ false → b ≡ true
-      go true z = refl
-      go false z = absurd (true≢false z)
-
-  lead-inside : (c : Cursor) → within 1 9 (kindAt deck c) ≡ true → c .at < length deck
-  unfolding kindAt byteAt
-  lead-inside c e = go (ltb (c .at) (length deck)) refl
-    where
-      go : (t : Bool) → ltb (c .at) (length deck) ≡ t → c .at < length deck
-      go true h = ltb-true _ _ h
-      go false h = absurd (true≢false (sym e ∙ ap (within 1 9) (List·getD-eq-default deck 0 (ltb-false _ _ h)) ∙ (unfold within in refl)))
-
-  lead-onward : (c : Cursor) → isNode (recordAt deck c) ≡ false → c .at < nextOf deck c .at
-  unfolding nextOf past
-  lead-onward c e = let w = lead-within c e in let i = lead-inside c w in let s = sized (kindAt deck c) w in omega (arith, i, s)
-
-  -- after it comes the node's own
-  own-further : (n : ℕ) (c : Cursor) → 0 < n → isNode (recordAt deck c) ≡ false → c .at < ownFrom deck n c .at
-  unfolding ownFrom
-  own-further zero c p e = absurd (omega arith)
-  own-further (suc n) c p e =
-      let l = lead-onward c e in
-      let o = own-onward n (nextOf deck c) (next-within deck c) in
-      rw e (omega (arith, l, o))
-
   step-further : (c : Cursor) → c .at ≤ length deck → isNode (recordAt deck c) ≡ false → c .at < stepAt deck c .at
   unfolding stepAt
-  step-further c k e =
-      let i = lead-inside c (lead-within c e) in
-      let o = head-at-onward deck c k in
-      let b = o .beyond in
-      let f : c .at < headAt deck c .place .at = rw (own-is deck c) (own-further (length deck) c (omega (arith, i)) e) in
-      omega (arith, f, b)
-
-  -- a node's own record with no leading one
-  bare : (n : ℕ) (l : Lead) (c : Cursor) → isNode (recordAt deck c) ≡ true → headFrom deck n l c ≡ headed deck l c
-  unfolding headFrom
-  bare zero l c e = refl
-  bare (suc n) l c e = rw e
+  step-further c k e = let f = own-further deck c e in let o = head-at-onward deck c k in omega (arith, f, o .beyond)
 
   bare-own : (c : Cursor) → c .at ≤ length deck → isNode (recordAt deck c) ≡ true → ownAt c ≡ []
   unfolding ownAt headAt spotAt spotOf nodeIn kept keptOf originOf ownBoundary headed
-  bare-own c k e = rw (tree-value deck pool c k, bare (length deck) noLead c e)
+  bare-own c k e = rw (tree-value deck pool c k, head-own deck (length deck) noLead c e)
 
   -- a head that does not go onward has no file
   stuck : (c : Cursor) → c .at ≤ length deck → stepAt deck c .at ≤ c .at → ownAt c ≡ []

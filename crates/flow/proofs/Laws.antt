@@ -30,13 +30,12 @@ use Rattle.spot.specs.declared.Spot.{Spot}
 use Rattle.spot.specs.Spot.{kindOf, endOf, keptIn, broughtIn, kindIn, endIn, nodeIn, spotAt, tree-value}
 use Rattle.spot.specs.Good.{Good, isGroup, countIn}
 use Rattle.atoms.specs.Atoms.{on, nullIn, commented, freshIn}
-use Rattle.choices.specs.Siblings.{SomeItems, SomePairs}
 use Rattle.joints.specs.declared.Manner.{Manner}
 use Rattle.joints.specs.declared.Manner.the-variants.{Entry, Key}
 use Rattle.joints.specs.Line.{rankOf, dressed, keyBy, ending, lineOf, line-key, line-entry}
 use Rattle.joints.specs.Told.{LastOf}
 use Rattle.joints.specs.Entries.{nodeAt, nextAt, lastOf, entryEnd, runEnd, someComments, itemOf, entryKey, entryOf, flowRun, linedBefore, linedAfter, linedOf, isNone, linedRun, opening, closing, linedIn, plainIn, groupOf, group-items, group-pairs, items-end, pairs-end}
-use Rattle.flow.specs.Ready.{Ready, Emits, AnyComments, after, further, keyed, inside, at-cursor}
+use Rattle.flow.specs.Ready.{Ready, Emits, after, further, keyed, inside, at-cursor}
 
 -- ---- the marks of a pen: in flow, in a key
 
@@ -156,18 +155,18 @@ module _ (s : Settings) (deck pool : Bytes) where
 
   -- ---- a flow collection: its entries on lines of their own, or on one line
 
-  module _ (i : ℕ) (pairs : Bool) (n : ℕ) (c r : Cursor) (f k C : Bool) (told : AnyComments deck pairs n c C) {P Q : Pen} where
+  module _ (i : ℕ) (pairs : Bool) (n : ℕ) (c r : Cursor) (f k C : Bool) (told : C ≡ someComments deck pool pairs n c) {P Q : Pen} where
     pub group-lined :
         (j : ℕ) → C ≡ true → j ≡ i + stepOf s → Emits s (linedIn deck pool s f k i j pairs n c) P Q (c .at) (runEnd deck pool pairs n c) r (length deck)
         → Emits s (groupOf deck pool s f k i pairs n c) P Q (c .at) (runEnd deck pool pairs n c) r (length deck)
     unfolding groupOf
-    group-lined j t h e = rw (← told .told pool, t, ← h) e
+    group-lined j t h e = rw (← told, t, ← h) e
 
     pub group-plain :
         C ≡ false → Emits s (plainIn deck pool s f k i pairs n c) P Q (c .at) (runEnd deck pool pairs n c) r (length deck)
         → Emits s (groupOf deck pool s f k i pairs n c) P Q (c .at) (runEnd deck pool pairs n c) r (length deck)
     unfolding groupOf
-    group-plain t e = rw (← told .told pool, t) e
+    group-plain t e = rw (← told, t) e
 
   -- one flow collection deeper, and back
   deeper :
@@ -472,15 +471,6 @@ module _ (s : Settings) (deck pool : Bytes) where
       → Going i pairs (linedRuns i pairs P₀) P₀ true n c P first left here → left ≡ 0
       → Emits s (linedRun deck pool s (F P₀) (K P₀) i pairs n c) P₀ P (c .at) (runEnd deck pool pairs n c) here (length deck)
   lined-stop i pairs P₀ n c P first left here g z = stop i pairs (linedRuns i pairs P₀) P₀ true n c P first left here g z (lined-done _ _ i pairs left here P _ z (g .same))
-
--- some entries have comments
-pub some-pairs-are : (deck : Bytes) (pairs : Bool) (c : Cursor) (n : ℕ) (r : Bool) → pairs ≡ true → SomePairs deck c n r → AnyComments deck pairs n c r
-unfolding someComments
-some-pairs-are deck pairs c n r e h = record { told = λ pool. rw e (h .told pool) }
-
-pub some-items-are : (deck : Bytes) (pairs : Bool) (c : Cursor) (n : ℕ) (r : Bool) → pairs ≡ false → SomeItems deck c n r → AnyComments deck pairs n c r
-unfolding someComments
-some-items-are deck pairs c n r e h = record { told = λ pool. rw e (h .told pool) }
 
 pub few-items : (x : Spot) (g : Group) → countIn (x .body) < 65536 → x .body ≡ body.Sequence g → g .count < 65536
 unfolding countIn

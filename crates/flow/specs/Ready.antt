@@ -17,7 +17,7 @@ use Rattle.parts.specs.Draws.{Draws}
 use Rattle.spot.specs.declared.Spot.{Spot}
 use Rattle.spot.specs.Spot.{endIn, nodeIn, spotAt, tree-value, tree-end}
 use Rattle.spot.specs.Good.{spot-good}
-use Rattle.joints.specs.Entries.{nodeAt, nextAt, someComments}
+use Rattle.joints.specs.Entries.{nodeAt, nextAt}
 
 -- deck, pool and output are within their limits; from this place of the deck on, neither the indent nor the depth of flow collections can grow too
 -- large, since each level is further on in the deck
@@ -41,10 +41,6 @@ pub record Emits (s : Settings) (a : Script) (P P′ : Pen) (start : ℕ) (after
 -- the slice stays as long as it was
 pub kept-length : (s : Settings) {a : Script} {P Q : Pen} {n : ℕ} {c r : Cursor} {l : ℕ} → Emits s a P Q n c r l → length (Q .out) ≡ length (P .out)
 kept-length s {a} {P} {Q} e = length-of s a P Q (e .drawn)
-
--- whether some entries have comments, whatever the pool holds
-pub record AnyComments (deck : Bytes) (pairs : Bool) (n : ℕ) (c : Cursor) (r : Bool) : Type 0 where
-  pub told : (pool : Bytes) → r ≡ someComments deck pool pairs n c
 
 pub step-small : (s : Settings) → s .indent ≤ 16 → stepOf s ≤ 16
 unfolding stepOf

@@ -19,7 +19,8 @@ ghost use Rattle.spot.specs.Good.{Good, countIn};
 ghost use Rattle.atoms.specs.Atoms.{on};
 ghost use Rattle.joints.specs.Line.{lineOf};
 ghost use Rattle.joints.specs.Entries.{nodeAt, nextAt, lastOf, entryEnd, runEnd, entryKey, entryOf, flowRun, linedOf, linedRun, linedIn, plainIn, groupOf};
-ghost use Rattle.flow.specs.Ready.{Ready, Emits, AnyComments};
+ghost use Rattle.flow.specs.Ready.{Ready, Emits};
+ghost use Rattle.flow.specs.Hushed.{treesIn, Hushed, HushedIn, Quiet, Lined};
 
 // The writer after something was written, and the cursor after it in the deck.
 pub struct Emitted {
@@ -27,11 +28,28 @@ pub struct Emitted {
     pub next: Cursor,
 }
 
-// Some entries have comments.
-fn commented(deck: &[u8], pairs: bool, c: Cursor, n: usize) -> bool
-    requires { ⌜ (c .at ≤ length (now deck)) × (length (now deck) ≤ 65536) × (n < 2 ^ 62) ⌝ }
-    ensures { λ r. ⌜ AnyComments (now (deck .entry)) pairs n c r ⌝ }
+// No entry has comments, at any depth: told already, or found so.
+fn is_quiet(deck: &[u8], still: bool, pairs: bool, c: Cursor, n: usize) -> bool
+    requires { ⌜ (c .at ≤ length (now deck)) × (length (now deck) ≤ 65536) × (n < 65536) ⌝ }
+    ensures { λ r. ⌜ Quiet (now (deck .entry)) still (treesIn pairs n) c r ⌝ }
 {
+    if still {
+        return true;
+    }
+    if pairs {
+        return node::is_still(deck, c, 2 * n);
+    }
+    node::is_still(deck, c, n)
+}
+
+// Some entries have comments, unless all are known to be quiet.
+fn is_lined(deck: &[u8], quiet: bool, pairs: bool, c: Cursor, n: usize) -> bool
+    requires { ⌜ (c .at ≤ length (now deck)) × (length (now deck) ≤ 65536) × (n < 2 ^ 62) ⌝ }
+    ensures { λ r. ⌜ Lined (now (deck .entry)) quiet pairs n c r ⌝ }
+{
+    if quiet {
+        return false;
+    }
     if pairs {
         return choices::any_comments_in(deck, c, n);
     }
@@ -57,8 +75,9 @@ fn content(
     settings: Settings,
     x: Spot,
     i: usize,
+    still: bool,
 ) -> Emitted
-    requires { ⌜ (Ready settings (now deck) (now pool) (pen w (now out)) (x .place) i) × Good (now deck) x × (countIn (x .body) < 65536) ⌝ }
+    requires { ⌜ (Ready settings (now deck) (now pool) (pen w (now out)) (x .place) i) × Good (now deck) x × (countIn (x .body) < 65536) × HushedIn (now deck) (now pool) still x ⌝ }
     ensures { λ r. ⌜ Emits settings (contentOf settings (on (w .flow)) (on (w .key)) i (x .place) (keptIn (now (deck .entry)) (now (pool .entry)) x) (broughtIn (now (deck .entry)) (now (pool .entry)) x) (kindIn (now (deck .entry)) (now (pool .entry)) x)) (pen w (now (out .entry))) (pen (r .w) (now (out .exit))) (x .place) (endIn (now (deck .entry)) (now (pool .entry)) x) (r .next) (length (now (deck .entry))) ⌝ }
 {
     let body = x.body;
@@ -92,13 +111,13 @@ fn content(
         Body::Sequence(g) => {
             let flow = w.flow;
             let v = joints::with_flow(w, flow + 1);
-            let e = group(v, deck, pool, out, settings, false, g.count, next, i);
+            let e = group(v, deck, pool, out, settings, false, g.count, next, i, still);
             back(e, flow)
         }
         Body::Mapping(g) => {
             let flow = w.flow;
             let v = joints::with_flow(w, flow + 1);
-            let e = group(v, deck, pool, out, settings, true, g.count, next, i);
+            let e = group(v, deck, pool, out, settings, true, g.count, next, i, still);
             back(e, flow)
         }
     }
@@ -115,15 +134,17 @@ fn group(
     n: usize,
     c: Cursor,
     i: usize,
+    still: bool,
 ) -> Emitted
-    requires { ⌜ (Ready settings (now deck) (now pool) (pen w (now out)) (c .at) (i + stepOf settings)) × (n < 65536) ⌝ }
+    requires { ⌜ (Ready settings (now deck) (now pool) (pen w (now out)) (c .at) (i + stepOf settings)) × (n < 65536) × Hushed (now deck) (now pool) still (treesIn pairs n) c ⌝ }
     ensures { λ r. ⌜ Emits settings (groupOf (now (deck .entry)) (now (pool .entry)) settings (on (w .flow)) (on (w .key)) i pairs n c) (pen w (now (out .entry))) (pen (r .w) (now (out .exit))) (c .at) (runEnd (now (deck .entry)) (now (pool .entry)) pairs n c) (r .next) (length (now (deck .entry))) ⌝ }
 {
     let j = i + choices::step_of(settings);
-    if commented(deck, pairs, c, n) {
+    let quiet = is_quiet(deck, still, pairs, c, n);
+    if is_lined(deck, quiet, pairs, c, n) {
         return lined_group(w, deck, pool, out, settings, pairs, n, c, i, j);
     }
-    plain_group(w, deck, pool, out, settings, pairs, n, c, i)
+    plain_group(w, deck, pool, out, settings, pairs, n, c, i, quiet)
 }
 
 // `emit_commented_flow_sequence` and `emit_commented_flow_mapping`: each entry on a line of its own, at column j.
@@ -162,12 +183,13 @@ fn plain_group(
     n: usize,
     c: Cursor,
     i: usize,
+    still: bool,
 ) -> Emitted
-    requires { ⌜ Ready settings (now deck) (now pool) (pen w (now out)) (c .at) i ⌝ }
+    requires { ⌜ (Ready settings (now deck) (now pool) (pen w (now out)) (c .at) i) × Hushed (now deck) (now pool) still (treesIn pairs n) c ⌝ }
     ensures { λ r. ⌜ Emits settings (plainIn (now (deck .entry)) (now (pool .entry)) settings (on (w .flow)) (on (w .key)) i pairs n c) (pen w (now (out .entry))) (pen (r .w) (now (out .exit))) (c .at) (runEnd (now (deck .entry)) (now (pool .entry)) pairs n c) (r .next) (length (now (deck .entry))) ⌝ }
 {
     let w1 = w.byte(out, joints::opening_of(pairs));
-    let e = flow_entries(w1, deck, pool, out, settings, pairs, n, c, i);
+    let e = flow_entries(w1, deck, pool, out, settings, pairs, n, c, i, still);
     let next = e.next;
     let v1 = e.w.byte(out, joints::closing_of(pairs));
     Emitted { w: v1, next }
@@ -211,8 +233,9 @@ fn flow_entries(
     n: usize,
     c: Cursor,
     i: usize,
+    still: bool,
 ) -> Emitted
-    requires { ⌜ Ready settings (now deck) (now pool) (pen w (now out)) (c .at) i ⌝ }
+    requires { ⌜ (Ready settings (now deck) (now pool) (pen w (now out)) (c .at) i) × Hushed (now deck) (now pool) still (treesIn pairs n) c ⌝ }
     ensures { λ r. ⌜ Emits settings (flowRun (now (deck .entry)) (now (pool .entry)) settings (on (w .flow)) (on (w .key)) i pairs true n c) (pen w (now (out .entry))) (pen (r .w) (now (out .exit))) (c .at) (runEnd (now (deck .entry)) (now (pool .entry)) pairs n c) (r .next) (length (now (deck .entry))) ⌝ }
 {
     let mut v = w;
@@ -221,7 +244,7 @@ fn flow_entries(
     let mut first = true;
     while left > 0 {
         let u = joints::put_between(v, out, settings, first, i);
-        let e = flow_entry(u, deck, pool, out, settings, pairs, here, i);
+        let e = flow_entry(u, deck, pool, out, settings, pairs, here, i, still);
         v = e.w;
         here = e.next;
         first = false;
@@ -248,8 +271,8 @@ fn lined_entry(
     let end = joints::last_of(deck, pairs, c);
     let x = spot::spot_at(deck, end);
     let w1 = joints::put_lined_before(w, deck, pool, out, pairs, c, x.lead, i);
-    let k = entry_key(w1, deck, pool, out, settings, pairs, c, i);
-    let e = line(k.w, deck, pool, out, settings, x, i, Manner::Entry);
+    let k = entry_key(w1, deck, pool, out, settings, pairs, c, i, false);
+    let e = line(k.w, deck, pool, out, settings, x, i, Manner::Entry, false);
     let next = e.next;
     let v1 = joints::put_lined_after(e.w, deck, pool, out, last, x.place, x.lead.remark);
     Emitted { w: v1, next }
@@ -265,12 +288,13 @@ fn entry_key(
     pairs: bool,
     c: Cursor,
     i: usize,
+    still: bool,
 ) -> Emitted
-    requires { ⌜ Ready settings (now deck) (now pool) (pen w (now out)) (c .at) i ⌝ }
+    requires { ⌜ (Ready settings (now deck) (now pool) (pen w (now out)) (c .at) i) × Hushed (now deck) (now pool) still (treesIn pairs 1) c ⌝ }
     ensures { λ r. ⌜ Emits settings (entryKey (now (deck .entry)) (now (pool .entry)) settings (on (w .flow)) (on (w .key)) i pairs c) (pen w (now (out .entry))) (pen (r .w) (now (out .exit))) (c .at) (lastOf (now (deck .entry)) (now (pool .entry)) pairs c) (r .next) (length (now (deck .entry))) ⌝ }
 {
     if pairs {
-        let e = entry_node(w, deck, pool, out, settings, c, i, Manner::Key);
+        let e = entry_node(w, deck, pool, out, settings, c, i, Manner::Key, still);
         let next = e.next;
         let v1 = e.w.byte(out, b' ');
         return Emitted { w: v1, next };
@@ -288,13 +312,24 @@ fn flow_entry(
     pairs: bool,
     c: Cursor,
     i: usize,
+    still: bool,
 ) -> Emitted
-    requires { ⌜ Ready settings (now deck) (now pool) (pen w (now out)) (c .at) i ⌝ }
+    requires { ⌜ (Ready settings (now deck) (now pool) (pen w (now out)) (c .at) i) × Hushed (now deck) (now pool) still (treesIn pairs 1) c ⌝ }
     ensures { λ r. ⌜ Emits settings (entryOf (now (deck .entry)) (now (pool .entry)) settings (on (w .flow)) (on (w .key)) i pairs c) (pen w (now (out .entry))) (pen (r .w) (now (out .exit))) (c .at) (entryEnd (now (deck .entry)) (now (pool .entry)) pairs c) (r .next) (length (now (deck .entry))) ⌝ }
 {
-    let e = entry_key(w, deck, pool, out, settings, pairs, c, i);
+    let e = entry_key(w, deck, pool, out, settings, pairs, c, i, still);
     let next = e.next;
-    entry_node(e.w, deck, pool, out, settings, next, i, Manner::Entry)
+    entry_node(
+        e.w,
+        deck,
+        pool,
+        out,
+        settings,
+        next,
+        i,
+        Manner::Entry,
+        still,
+    )
 }
 
 // A node on its line: its properties, its content, what ends it. The one caller of `content`, so that the compiler needs no copy of the node for it.
@@ -307,14 +342,15 @@ pub fn line(
     x: Spot,
     i: usize,
     manner: Manner,
+    still: bool,
 ) -> Emitted
-    requires { ⌜ (Ready settings (now deck) (now pool) (pen w (now out)) (x .place) i) × Good (now deck) x × (countIn (x .body) < 65536) ⌝ }
+    requires { ⌜ (Ready settings (now deck) (now pool) (pen w (now out)) (x .place) i) × Good (now deck) x × (countIn (x .body) < 65536) × HushedIn (now deck) (now pool) still x ⌝ }
     ensures { λ r. ⌜ Emits settings (lineOf settings (on (w .flow)) (on (w .key)) manner i (nodeIn (now (deck .entry)) (now (pool .entry)) x)) (pen w (now (out .entry))) (pen (r .w) (now (out .exit))) (x .place) (endIn (now (deck .entry)) (now (pool .entry)) x) (r .next) (length (now (deck .entry))) ⌝ }
 {
     let mark = w.key;
     let w1 = joints::put_dress(w, deck, pool, out, x, manner);
     let w2 = joints::with_key(w1, joints::key_in(manner, mark));
-    let e = content(w2, deck, pool, out, settings, x, i);
+    let e = content(w2, deck, pool, out, settings, x, i, still);
     let next = e.next;
     let v = joints::with_key(e.w, mark);
     let v1 = joints::put_ending(v, deck, pool, out, x, manner);
@@ -331,10 +367,11 @@ fn entry_node(
     c: Cursor,
     i: usize,
     manner: Manner,
+    still: bool,
 ) -> Emitted
-    requires { ⌜ Ready settings (now deck) (now pool) (pen w (now out)) (c .at) i ⌝ }
+    requires { ⌜ (Ready settings (now deck) (now pool) (pen w (now out)) (c .at) i) × Hushed (now deck) (now pool) still 1 c ⌝ }
     ensures { λ r. ⌜ Emits settings (lineOf settings (on (w .flow)) (on (w .key)) manner i (nodeAt (now (deck .entry)) (now (pool .entry)) c)) (pen w (now (out .entry))) (pen (r .w) (now (out .exit))) (c .at) (nextAt (now (deck .entry)) (now (pool .entry)) c) (r .next) (length (now (deck .entry))) ⌝ }
 {
     let x = spot::spot_at(deck, c);
-    line(w, deck, pool, out, settings, x, i, manner)
+    line(w, deck, pool, out, settings, x, i, manner, still)
 }

@@ -165,7 +165,7 @@ fn put_key_heads(
 
 // The cursor of an entry's last node: a pair's value, or the item.
 pub fn last_of(deck: &[u8], pairs: bool, c: Cursor) -> Cursor
-    requires { ⌜ c .at ≤ length (now deck) ⌝ }
+    requires { ⌜ (c .at ≤ length (now deck)) × (length (now deck) ≤ 65536) ⌝ }
     ensures { λ r. ⌜ LastOf (now (deck .entry)) pairs c r ⌝ }
 {
     if pairs {

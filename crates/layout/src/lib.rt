@@ -35,7 +35,7 @@ pub fn put_include(
     x: Spot,
     c: Cursor,
 ) -> Emitted
-    requires { ⌜ (length (now out) ≤ 1048576) × (c .at ≤ length (now deck)) × (x .place < 2 ^ 62) ⌝ }
+    requires { ⌜ (length (now out) ≤ 1048576) × (c .at ≤ length (now deck)) × (length (now deck) ≤ 65536) × (x .place < 2 ^ 62) ⌝ }
     ensures { λ r. ⌜ Emits settings (includeAfter (x .place) (keptIn (now (deck .entry)) (now (pool .entry)) x)) (pen w (now (out .entry))) (pen (r .w) (now (out .exit))) (c .at) (nextAt (now (deck .entry)) (now (pool .entry)) c) (r .next) (length (now (deck .entry))) ⌝ }
 {
     let w1 = w.byte(out, b' ');
@@ -58,7 +58,7 @@ fn put_below(
     ensures { λ r. ⌜ Emits settings (belowIntroducer (x .place) (keptIn (now (deck .entry)) (now (pool .entry)) x) (broughtIn (now (deck .entry)) (now (pool .entry)) x) i (content settings false false i (nodeIn (now (deck .entry)) (now (pool .entry)) x))) (pen w (now (out .entry))) (pen (r .w) (now (out .exit))) (x .place) (endIn (now (deck .entry)) (now (pool .entry)) x) (r .next) (length (now (deck .entry))) ⌝ }
 {
     let w1 = parts::put_below(w, deck, pool, out, x.place, x.lead, i);
-    flow::line(w1, deck, pool, out, settings, x, i, Manner::Below)
+    flow::line(w1, deck, pool, out, settings, x, i, Manner::Below, false)
 }
 
 // The space between an introducer and its value. One space is a byte: most values have no other pad.
@@ -120,7 +120,7 @@ pub fn put_key_line(
     ensures { λ r. ⌜ Emits settings (keyLine settings i (broughtIn (now (deck .entry)) (now (pool .entry)) x) (nodeIn (now (deck .entry)) (now (pool .entry)) x)) (pen w (now (out .entry))) (pen (r .w) (now (out .exit))) (x .place) (endIn (now (deck .entry)) (now (pool .entry)) x) (r .next) (length (now (deck .entry))) ⌝ }
 {
     let w1 = w.byte(out, b' ');
-    flow::line(w1, deck, pool, out, settings, x, i, Manner::Asked)
+    flow::line(w1, deck, pool, out, settings, x, i, Manner::Asked, false)
 }
 
 // What stands before an item or a pair, unless its line is begun already.

@@ -16,9 +16,9 @@ use Rattle.definition.specs.declared.Group.{Group}
 use Rattle.definition.specs.declared.Record.{Record}
 use Rattle.definition.specs.declared.Record.the-variants as is
 use Rattle.deck.specs.Next.{nextOf}
-use Rattle.deck.specs.Kids.{kidsOf, twice, no-kids}
+use Rattle.deck.specs.Kids.{kidsOf, twice, no-kids, lead-sized}
 use Rattle.node.specs.declared.Lead.{Lead}
-use Rattle.node.specs.Head.{Head, addTo, headed, headFrom, headAt, ownFrom, noLead}
+use Rattle.node.specs.Head.{Head, addTo, headed, headFrom, headAt, noLead}
 use Rattle.node.specs.Total.{Got, keptOf, broughtOf, itemsFrom, pairsFrom, shape, shapeOf, nullAt, nodeFrom, treeAt}
 
 -- n siblings passed, one after another
@@ -44,7 +44,7 @@ min-onward a b n h = go (leb (a + n) b) refl
     go false e = let l : b < a + n = leb-false _ _ e in let k : b ≤ a + n = omega arith in rw (min-eq-right k) h
 
 module _ (deck : Bytes) where
-  next-onward : (c : Cursor) → c .at ≤ length deck → c .at ≤ nextOf deck c .at
+  pub next-onward : (c : Cursor) → c .at ≤ length deck → c .at ≤ nextOf deck c .at
   unfolding nextOf past
   next-onward c h = min-onward (c .at) (length deck) _ h
 
@@ -61,16 +61,26 @@ module _ (deck : Bytes) where
       go true h = ltb-true _ _ h
       go false h = let z : 0 ≡ k = sym (List·getD-eq-default deck 0 (ltb-false _ _ h)) ∙ e in absurd (omega arith)
 
+  -- past a record that has bytes
+  sized : (c : Cursor) → 0 < kindAt deck c → 0 < sizeOf (kindAt deck c) → c .at < nextOf deck c .at
+  unfolding nextOf past
+  sized c p s =
+      let i : c .at < length deck = inside c (kindAt deck c) p refl in
+      let m = sizeOf (kindAt deck c) in
+      let v : c .at + 1 + (m - 1) ≡ c .at + m = omega arith in
+      let w : c .at + 1 ≤ min (c .at + m) (length deck) = rw v at (min-onward (c .at + 1) (length deck) (m - 1) (omega arith)) in
+      omega arith
+
   -- past a collection's record
   pub collection : (c : Cursor) (k : ℕ) → 0 < k → kindAt deck c ≡ k → sizeOf k ≡ 4 → c .at < nextOf deck c .at
-  unfolding nextOf past
-  collection c k p e s =
-      let i : c .at < length deck = inside c k p e in
-      let v : c .at + 1 + 3 ≡ c .at + 4 = omega arith in
-      let w : c .at + 1 ≤ min (c .at + 4) (length deck) = rw v at (min-onward (c .at + 1) (length deck) 3 (omega arith)) in
-      rw (e, s) (omega arith)
+  collection c k p e s = sized c (rw e p) (rw (e, s) (omega arith))
 
-  next-kids : (c : Cursor) → (kidsOf (recordAt deck c) ≡ 0 → ⊥) → c .at < nextOf deck c .at
+  -- past a leading record
+  pub lead-onward : (c : Cursor) → isNode (recordAt deck c) ≡ false → c .at < nextOf deck c .at
+  unfolding recordAt
+  lead-onward c e = let s = lead-sized deck (c .at + 1) (kindAt deck c) e in sized c (s .0) (s .1)
+
+  pub next-kids : (c : Cursor) → (kidsOf (recordAt deck c) ≡ 0 → ⊥) → c .at < nextOf deck c .at
   unfolding recordAt sizeOf
   next-kids c n = go (eqb (kindAt deck c) 0x23) (eqb (kindAt deck c) 0x24) refl refl
     where
@@ -99,25 +109,60 @@ module _ (deck : Bytes) where
   unfolding headAt
   head-at-onward c k = head-onward (length deck) noLead c k
 
+  -- a node's own record with no leading one
+  pub head-own : (n : ℕ) (l : Lead) (c : Cursor) → isNode (recordAt deck c) ≡ true → headFrom deck n l c ≡ headed deck l c
+  unfolding headFrom
+  head-own zero l c e = refl
+  head-own (suc n) l c e = rw e
+
+  -- after a leading one it comes further on
+  pub own-further : (c : Cursor) → isNode (recordAt deck c) ≡ false → c .at < headAt deck c .place .at
+  unfolding headAt
+  own-further c e = let o = lead-onward c e in let w = next-within c in go (length deck) (omega arith)
+    where
+      go : (n : ℕ) → 0 < n → c .at < headFrom deck n noLead c .place .at
+      go zero p = absurd (omega arith)
+      go (suc n) p = let o = lead-onward c e in let h = head-onward n (addTo (recordAt deck c) c noLead) (nextOf deck c) (next-within c) in unfold headFrom in rw e (omega (arith, o, h .ahead))
+
   -- the own record's cursor lies within the deck
   pub place-within : (c : Cursor) → c .at ≤ length deck → headAt deck c .place .at ≤ length deck
   place-within c k = let o = head-at-onward c k in omega (arith, o .beyond, o .within)
 
   -- where the own record stands does not depend on what the leading ones say
-  own-from : (n : ℕ) (l : Lead) (c : Cursor) → headFrom deck n l c .place ≡ ownFrom deck n c
-  unfolding headFrom headed ownFrom
-  own-from zero l c = refl
-  own-from (suc n) l c = go (isNode (recordAt deck c)) (own-from n (addTo (recordAt deck c) c l) (nextOf deck c))
+  pub place-same : (n : ℕ) (l m : Lead) (c : Cursor) → headFrom deck n l c .place ≡ headFrom deck n m c .place
+  unfolding headFrom headed
+  place-same zero l m c = refl
+  place-same (suc n) l m c = go (isNode (recordAt deck c)) (place-same n (addTo (recordAt deck c) c l) (addTo (recordAt deck c) c m) (nextOf deck c))
     where
       go :
-          (b : Bool) → headFrom deck n (addTo (recordAt deck c) c l) (nextOf deck c) .place ≡ ownFrom deck n (nextOf deck c) →
-          (if b then headed deck l c else headFrom deck n (addTo (recordAt deck c) c l) (nextOf deck c)) .place ≡ (if b then c else ownFrom deck n (nextOf deck c))
+          (b : Bool) → headFrom deck n (addTo (recordAt deck c) c l) (nextOf deck c) .place ≡ headFrom deck n (addTo (recordAt deck c) c m) (nextOf deck c) .place →
+          (if b then headed deck l c else headFrom deck n (addTo (recordAt deck c) c l) (nextOf deck c)) .place ≡ (if b then headed deck m c else headFrom deck n (addTo (recordAt deck c) c m) (nextOf deck c)) .place
       go true e = refl
       go false e = e
 
-  pub own-is : (c : Cursor) → headAt deck c .place ≡ ownFrom deck (length deck) c
-  unfolding headAt
-  own-is c = own-from (length deck) noLead c
+  -- at the deck's end no record leads
+  head-end : (n : ℕ) (l : Lead) (c : Cursor) → length deck ≤ c .at → headFrom deck n l c ≡ headed deck l c
+  unfolding headFrom
+  head-end zero l c h = refl
+  head-end (suc n) l c h = go (isNode (recordAt deck c)) refl
+    where
+      go : (b : Bool) → isNode (recordAt deck c) ≡ b → headFrom deck (suc n) l c ≡ headed deck l c
+      go true e = rw e
+      go false e = let o = lead-onward c e in let w = next-within c in absurd (omega arith)
+
+  -- as many leading records as the deck may hold are enough
+  pub head-same : (n m : ℕ) (l : Lead) (c : Cursor) → length deck - c .at ≤ n → length deck - c .at ≤ m → headFrom deck n l c ≡ headFrom deck m l c
+  unfolding headFrom
+  head-same zero m l c p q = sym (head-end m l c (omega arith))
+  head-same (suc n) zero l c p q = head-end (suc n) l c (omega arith)
+  head-same (suc n) (suc m) l c p q = go (isNode (recordAt deck c)) refl (λ h k. head-same n m (addTo (recordAt deck c) c l) (nextOf deck c) h k)
+    where
+      go :
+          (b : Bool) → isNode (recordAt deck c) ≡ b
+          → (length deck - nextOf deck c .at ≤ n → length deck - nextOf deck c .at ≤ m → headFrom deck n (addTo (recordAt deck c) c l) (nextOf deck c) ≡ headFrom deck m (addTo (recordAt deck c) c l) (nextOf deck c))
+          → headFrom deck (suc n) l c ≡ headFrom deck (suc m) l c
+      go true e f = rw e
+      go false e f = let o = lead-onward c e in rw e (f (omega arith) (omega arith))
 
   -- at the deck's end there are no children
   ended : (c : Cursor) → c .at ≤ length deck → length deck ≤ c .at → kidsOf (headAt deck c .own) ≡ 0

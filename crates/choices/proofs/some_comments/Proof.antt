@@ -19,7 +19,7 @@ returns c = none _ _ _ (c .if1 .taken)
 
 -- src/lib.rt:393:5
 loop-holds : tie.Need-loop-holds Inv-loop μ-loop
-loop-holds c = (record { same = λ pool. refl }, (c .before .before .pre), (let z = c .if1 .left in omega arith))
+loop-holds c = (record { same = λ pool. refl }, (c .before .before .pre) .0, (let z = c .if1 .left in omega arith))
 
 -- src/lib.rt:394:12
 has-comments-requires : tie.Need-has-comments-requires Inv-loop μ-loop
@@ -31,7 +31,7 @@ returns-2 c = found _ _ _ _ _ (c .before .before .before .loop .inv .2) (c .befo
 
 -- src/lib.rt:397:9
 subtree-end-requires : tie.Need-subtree-end-requires Inv-loop μ-loop
-subtree-end-requires c κs = c .before .before .before .loop .inv .1
+subtree-end-requires c κs = (c .before .before .before .loop .inv .1, (c .before .before .before .before .before .before .pre) .1)
 
 -- src/lib.rt:398:9
 sub-left : tie.Need-sub-left Inv-loop μ-loop

@@ -1,6 +1,7 @@
 use Rattle.layout.specs.Calm.{in-line}
 use native.Mathlib.Omega.{arith}
 use Rattle.document.proofs.Laws.{line-whole}
+use Rattle.flow.specs.Hushed.{untold-in}
 use borrow.Author.Needs.{needs}
 use Rattle.document.proofs.put_inlined.Statement.{statement}
 use Rattle.document.proofs.put_inlined.Tie as tie
@@ -11,7 +12,7 @@ step-of-requires c κs = search needs
 
 -- src/lib.rt:155:5
 line-requires : tie.Need-line-requires
-line-requires c κs = let p = c .before .before .before .before .before .pre in let b = p .0 in let n = c .before .step-of .ensures .1 (b .ready .step) in (in-line b _ _ (omega arith) (b .ready .here) (omega (arith, n)), p .1, p .2)
+line-requires c κs = let p = c .before .before .before .before .before .pre in let b = p .0 in let n = c .before .step-of .ensures .1 (b .ready .step) in (in-line b _ _ (omega arith) (b .ready .here) (omega (arith, n)), p .1, p .2, untold-in _ _ _)
 
 -- src/lib.rt:142:1
 same-length : tie.Need-same-length

@@ -39,7 +39,7 @@ use Rattle.flow.proofs.+content+entry_key+entry_node+flow_entries+flow_
 use Rattle.flow.proofs.+content+entry_key+entry_node+flow_entries+flow_entry+group+line+lined_entries+lined_entry+lined_group+plain_group.Proof.EntryKey.{entry-key-entry-node-requires, entry-key-byte-requires, entry-key-same-length, entry-key-returns, entry-key-returns-2}
 use Rattle.flow.proofs.+content+entry_key+entry_node+flow_entries+flow_entry+group+line+lined_entries+lined_entry+lined_group+plain_group.Proof.FlowEntries.{flow-entries-Inv-loop, flow-entries-μ-loop, flow-entries-loop-holds, flow-entries-put-between-requires, flow-entries-flow-entry-requires, flow-entries-sub-left, flow-entries-loop-less, flow-entries-loop-again, flow-entries-same-length, flow-entries-returns}
 use Rattle.flow.proofs.+content+entry_key+entry_node+flow_entries+flow_entry+group+line+lined_entries+lined_entry+lined_group+plain_group.Proof.FlowEntry.{flow-entry-entry-key-requires, flow-entry-entry-node-requires, flow-entry-same-length, flow-entry-returns}
-use Rattle.flow.proofs.+content+entry_key+entry_node+flow_entries+flow_entry+group+line+lined_entries+lined_entry+lined_group+plain_group.Proof.Group.{group-step-of-requires, group-add-j, group-commented-requires, group-lined-group-requires, group-same-length, group-returns, group-plain-group-requires, group-same-length-2, group-returns-2}
+use Rattle.flow.proofs.+content+entry_key+entry_node+flow_entries+flow_entry+group+line+lined_entries+lined_entry+lined_group+plain_group.Proof.Group.{group-step-of-requires, group-add-j, group-is-quiet-requires, group-is-lined-requires, group-lined-group-requires, group-same-length, group-returns, group-plain-group-requires, group-same-length-2, group-returns-2}
 use Rattle.flow.proofs.+content+entry_key+entry_node+flow_entries+flow_entry+group+line+lined_entries+lined_entry+lined_group+plain_group.Proof.EntryNode.{entry-node-spot-at-requires, entry-node-line-requires, entry-node-same-length, entry-node-returns}
 use Rattle.flow.proofs.+content+entry_key+entry_node+flow_entries+flow_entry+group+line+lined_entries+lined_entry+lined_group+plain_group.Proof.Line.{line-put-dress-requires, line-key-in-requires, line-with-key-requires, line-content-requires, line-with-key-requires-2, line-put-ending-requires, line-same-length, line-returns}
 use Rattle.flow.proofs.+content+entry_key+entry_node+flow_entries+flow_entry+group+line+lined_entries+lined_entry+lined_group+plain_group.Proof.LinedEntries.{lined-entries-Inv-loop, lined-entries-μ-loop, lined-entries-loop-holds, lined-entries-lined-entry-requires, lined-entries-sub-left, lined-entries-loop-less, lined-entries-loop-again, lined-entries-same-length, lined-entries-returns}
@@ -133,7 +133,8 @@ pub +content+entry-key+entry-node+flow-entries+flow-entry+group+line+lined-entri
     group.Post
     (group-step-of-requires t)
     (group-add-j t)
-    (group-commented-requires t)
+    (group-is-quiet-requires t)
+    (group-is-lined-requires t)
     (group-lined-group-requires t)
     (group-same-length t)
     (group-returns t)

@@ -13,7 +13,7 @@ returns c = last-value _ _ _ _ (c .before .if1 .taken) (c .subtree-end .ensures)
 
 -- src/lib.rt:74:1
 returns-2 : tie.Need-returns-2
-returns-2 c = last-item _ _ _ (c .if1 .left) (c .before .before .pre)
+returns-2 c = last-item _ _ _ (c .if1 .left) ((c .before .before .pre) .0)
 
 pub last-of-spec : {M : Type 1} → statement M
 last-of-spec = tie.close (tie.spec subtree-end-requires returns returns-2)

@@ -1,5 +1,6 @@
 use Rattle.flow.specs.Ready.{after-drawn}
 use Rattle.layout.proofs.Laws.{below-whole}
+use Rattle.flow.specs.Hushed.{untold-in}
 use borrow.Author.Needs.{needs}
 use Rattle.layout.proofs.put_below.Statement.{statement}
 use Rattle.layout.proofs.put_below.Tie as tie
@@ -10,7 +11,7 @@ put-below-requires c κs = search needs
 
 -- src/lib.rt:84:5
 line-requires : tie.Need-line-requires
-line-requires c κs = let p = c .before .before .before .before .before .before .before .before .pre in (after-drawn (p .0) (c .before .before .before .put-below .ensures), p .1, p .2)
+line-requires c κs = let p = c .before .before .before .before .before .before .before .before .pre in (after-drawn (p .0) (c .before .before .before .put-below .ensures), p .1, p .2, untold-in _ _ _)
 
 -- src/lib.rt:70:1
 same-length : tie.Need-same-length

@@ -2,6 +2,7 @@ use Rattle.layout.proofs.Laws.{key-line-whole}
 use Rattle.definition.specs.Pen.{mark}
 use Rattle.flow.specs.Ready.{after-drawn}
 use Rattle.parts.specs.Draws.{of-byte}
+use Rattle.flow.specs.Hushed.{untold-in}
 use borrow.Author.Needs.{needs}
 use Rattle.layout.proofs.put_key_line.Statement.{statement}
 use Rattle.layout.proofs.put_key_line.Tie as tie
@@ -12,7 +13,7 @@ byte-requires c κs = search needs
 
 -- src/lib.rt:109:5
 line-requires : tie.Need-line-requires
-line-requires c κs = let p = c .before .before .before .before .before .before .before .before .pre in (after-drawn (p .0) (of-byte mark _ (c .before .before .before .byte .ensures)), p .1, p .2)
+line-requires c κs = let p = c .before .before .before .before .before .before .before .before .pre in (after-drawn (p .0) (of-byte mark _ (c .before .before .before .byte .ensures)), p .1, p .2, untold-in _ _ _)
 
 -- src/lib.rt:96:1
 same-length : tie.Need-same-length

@@ -7,6 +7,7 @@ use Rattle.layout.specs.Calm.{calm-drawn, calm-further, in-line}
 use Rattle.block.proofs.Laws.{dash-included, dash-block, dash-plain}
 use Rattle.spot.specs.Good.{spot-good, few-spot}
 use mathlib.Core.Path.{sym, _∙_}
+use Rattle.flow.specs.Hushed.{untold-in}
 use borrow.Author.Needs.{needs}
 use Prim.Native.Nat.{ℕ}
 use Rattle.block.proofs.put_dash.Reads as put-dash
@@ -25,7 +26,7 @@ put-dash-is-included-requires t c κs = search needs
 
 -- src/lib.rt:246:9
 pub put-dash-put-include-requires : (t : ℕ) → put-dash-lts.Need-put-include-requires (put-dash-claims t) (put-dash-at t) put-dash.Post
-put-dash-put-include-requires t c κs = let p = calm-drawn ((c .before .before .before .before .before .before .before .before .before .before .pre) .1 .0) (of-byte mark _ (c .before .before .before .before .before .byte .ensures)) in let r = p .ready in let g = spot-good _ _ _ (r .here) (r .deck-small) ((c .before .before .before .before .before .before .before .before .before .before .pre) .1 .1) in (r .out-small, r .here, omega (arith, g .2, r .deck-small))
+put-dash-put-include-requires t c κs = let p = calm-drawn ((c .before .before .before .before .before .before .before .before .before .before .pre) .1 .0) (of-byte mark _ (c .before .before .before .before .before .byte .ensures)) in let r = p .ready in let g = spot-good _ _ _ (r .here) (r .deck-small) ((c .before .before .before .before .before .before .before .before .before .before .pre) .1 .1) in (r .out-small, r .here, r .deck-small, omega (arith, g .2, r .deck-small))
 
 -- src/lib.rt:246:9
 pub put-dash-same-length : (t : ℕ) → put-dash-lts.Need-same-length (put-dash-claims t) (put-dash-at t) put-dash.Post
@@ -61,7 +62,7 @@ pub put-dash-put-pad-requires : (t : ℕ) → put-dash-lts.Need-put-pad-requires
 put-dash-put-pad-requires t c κs = let r = calm-drawn ((c .before .before .before .before .before .before .before .before .before .before .before .before .before .before .pre) .1 .0) (of-byte mark _ (c .before .before .before .before .before .before .before .before .before .byte .ensures)) .ready in omega (arith, r .out-small)
 
 pub put-dash-line-requires : (t : ℕ) → put-dash-lts.Need-line-requires (put-dash-claims t) (put-dash-at t) put-dash.Post
-put-dash-line-requires t c κs = let p = calm-drawn ((c .before .before .before .before .before .before .before .before .before .before .before .before .before .before .before .before .before .before .pre) .1 .0) (of-byte mark _ (c .before .before .before .before .before .before .before .before .before .before .before .before .before .byte .ensures)) in let r = p .ready in let g = spot-good _ _ _ (r .here) (r .deck-small) ((c .before .before .before .before .before .before .before .before .before .before .before .before .before .before .before .before .before .before .pre) .1 .1) in (after-drawn (in-line p _ _ (g .1) (g .2) (omega arith)) (c .before .before .before .put-pad .ensures), g .0, few-spot _ (λ k. omega (arith, c .before .before .before .before .before .before .before .before .before .before .before .before .before .before .before .before .before .shared-slice-known .given k)) _ _ (r .here) ((c .before .before .before .before .before .before .before .before .before .before .before .before .before .before .before .before .before .before .pre) .1 .1))
+put-dash-line-requires t c κs = let p = calm-drawn ((c .before .before .before .before .before .before .before .before .before .before .before .before .before .before .before .before .before .before .pre) .1 .0) (of-byte mark _ (c .before .before .before .before .before .before .before .before .before .before .before .before .before .byte .ensures)) in let r = p .ready in let g = spot-good _ _ _ (r .here) (r .deck-small) ((c .before .before .before .before .before .before .before .before .before .before .before .before .before .before .before .before .before .before .pre) .1 .1) in (after-drawn (in-line p _ _ (g .1) (g .2) (omega arith)) (c .before .before .before .put-pad .ensures), g .0, few-spot _ (λ k. omega (arith, c .before .before .before .before .before .before .before .before .before .before .before .before .before .before .before .before .before .shared-slice-known .given k)) _ _ (r .here) ((c .before .before .before .before .before .before .before .before .before .before .before .before .before .before .before .before .before .before .pre) .1 .1), untold-in _ _ _)
 
 pub put-dash-same-length-3 : (t : ℕ) → put-dash-lts.Need-same-length-3 (put-dash-claims t) (put-dash-at t) put-dash.Post
 put-dash-same-length-3 t c = let a = c .before .before .before .before .before .before .before .before .before .before .before .before .before .before .before .before .byte .kept in let b = c .before .before .before .before .before .before .put-pad .kept in let d = c .before .before .line .kept in omega (arith, a, b, d)

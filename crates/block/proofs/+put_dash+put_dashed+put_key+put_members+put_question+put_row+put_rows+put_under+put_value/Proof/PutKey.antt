@@ -3,6 +3,7 @@ use Rattle.definition.specs.Pen.{mark}
 use Rattle.parts.specs.Draws.{of-byte}
 use Rattle.layout.specs.Calm.{calm-drawn, calm-after}
 use Rattle.block.proofs.Laws.{key-explicit, key-inline}
+use Rattle.flow.specs.Hushed.{untold-in}
 use borrow.Author.Needs.{needs}
 use Prim.Native.Nat.{ℕ}
 use Rattle.block.proofs.put_key.Reads as put-key
@@ -35,7 +36,7 @@ put-key-returns t c = key-explicit _ _ _ _ _ _ _ _ _ (c .before .before .before 
 
 -- src/lib.rt:174:5
 pub put-key-line-requires : (t : ℕ) → put-key-lts.Need-line-requires (put-key-claims t) (put-key-at t) put-key.Post
-put-key-line-requires t c κs = let p = (c .before .before .before .before .before .before .pre) .1 in (p .0 .ready, p .1, p .2)
+put-key-line-requires t c κs = let p = (c .before .before .before .before .before .before .pre) .1 in (p .0 .ready, p .1, p .2, untold-in _ _ _)
 
 -- src/lib.rt:153:1
 pub put-key-same-length-2 : (t : ℕ) → put-key-lts.Need-same-length-2 (put-key-claims t) (put-key-at t) put-key.Post

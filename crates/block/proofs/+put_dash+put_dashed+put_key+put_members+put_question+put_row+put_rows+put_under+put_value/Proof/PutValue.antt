@@ -5,6 +5,7 @@ use Rattle.layout.specs.Value.{value-beside}
 use Rattle.layout.specs.Calm.{calm-inside, in-line}
 use Rattle.block.proofs.Laws.{deeper, value-included, value-block, value-plain}
 use Rattle.spot.specs.Good.{spot-good, few-spot}
+use Rattle.flow.specs.Hushed.{untold-in}
 use borrow.Author.Needs.{needs}
 use Prim.Native.Nat.{ℕ}
 use Rattle.block.proofs.put_under.Reads as put-under
@@ -22,7 +23,7 @@ put-value-is-included-requires t c κs = search needs
 
 -- src/lib.rt:218:9
 pub put-value-put-include-requires : (t : ℕ) → put-value-lts.Need-put-include-requires (put-value-claims t) (put-value-at t) put-value.Post
-put-value-put-include-requires t c κs = let r = (c .before .before .before .before .before .before .before .pre) .1 .ready in let g = spot-good _ _ _ (r .here) (r .deck-small) (c .before .before .before .spot-at .ensures) in (r .out-small, r .here, omega (arith, g .2, r .deck-small))
+put-value-put-include-requires t c κs = let r = (c .before .before .before .before .before .before .before .pre) .1 .ready in let g = spot-good _ _ _ (r .here) (r .deck-small) (c .before .before .before .spot-at .ensures) in (r .out-small, r .here, r .deck-small, omega (arith, g .2, r .deck-small))
 
 -- src/lib.rt:218:9
 pub put-value-same-length : (t : ℕ) → put-value-lts.Need-same-length (put-value-claims t) (put-value-at t) put-value.Post
@@ -67,7 +68,7 @@ pub put-value-put-pad-requires : (t : ℕ) → put-value-lts.Need-put-pad-requir
 put-value-put-pad-requires t c κs = search needs
 
 pub put-value-line-requires : (t : ℕ) → put-value-lts.Need-line-requires (put-value-claims t) (put-value-at t) put-value.Post
-put-value-line-requires t c κs = let p = (c .before .before .before .before .before .before .before .before .before .before .before .before .before .before .before .before .pre) .1 in let r = p .ready in let g = spot-good _ _ _ (r .here) (r .deck-small) (c .before .before .before .before .before .before .before .before .before .before .before .before .spot-at .ensures) in let e = c .before .before .before .before .before .before .before .step-of .ensures .1 (r .step) in (after-drawn (in-line p _ _ (g .1) (g .2) (omega (arith, e))) (c .before .before .before .put-pad .ensures), g .0, few-spot _ (λ k. omega (arith, c .before .before .before .before .before .before .before .before .before .before .before .before .before .before .before .shared-slice-known .given k)) _ _ (r .here) (c .before .before .before .before .before .before .before .before .before .before .before .before .spot-at .ensures))
+put-value-line-requires t c κs = let p = (c .before .before .before .before .before .before .before .before .before .before .before .before .before .before .before .before .pre) .1 in let r = p .ready in let g = spot-good _ _ _ (r .here) (r .deck-small) (c .before .before .before .before .before .before .before .before .before .before .before .before .spot-at .ensures) in let e = c .before .before .before .before .before .before .before .step-of .ensures .1 (r .step) in (after-drawn (in-line p _ _ (g .1) (g .2) (omega (arith, e))) (c .before .before .before .put-pad .ensures), g .0, few-spot _ (λ k. omega (arith, c .before .before .before .before .before .before .before .before .before .before .before .before .before .before .before .shared-slice-known .given k)) _ _ (r .here) (c .before .before .before .before .before .before .before .before .before .before .before .before .spot-at .ensures), untold-in _ _ _)
 
 pub put-value-same-length-3 : (t : ℕ) → put-value-lts.Need-same-length-3 (put-value-claims t) (put-value-at t) put-value.Post
 put-value-same-length-3 t c = search needs

@@ -41,7 +41,8 @@ use Rattle.atoms.proofs.put_null.Reads as put-null-reads
 use Rattle.atoms.proofs.put_words.Reads as put-words-reads
 use Rattle.choices.proofs.step_of.Reads as step-of-reads
 use Rattle.flow.proofs.back.Reads as back-reads
-use Rattle.flow.proofs.commented.Reads as commented-reads
+use Rattle.flow.proofs.is_lined.Reads as is-lined-reads
+use Rattle.flow.proofs.is_quiet.Reads as is-quiet-reads
 use Rattle.joints.proofs.closing_of.Reads as closing-of-reads
 use Rattle.joints.proofs.key_in.Reads as key-in-reads
 use Rattle.joints.proofs.last_of.Reads as last-of-reads
@@ -224,8 +225,10 @@ abbrev pub group-claims : ℕ → group-lts.Claims
 group-claims t = (
   step-of-reads.Asked,
   step-of-reads.Learnt,
-  commented-reads.Asked,
-  commented-reads.Learnt,
+  is-quiet-reads.Asked,
+  is-quiet-reads.Learnt,
+  is-lined-reads.Asked,
+  is-lined-reads.Learnt,
   lined-group-below t,
   lined-group.Post,
   plain-group-below t,

@@ -1,5 +1,6 @@
 use native.Mathlib.Omega.{arith}
 use Rattle.flow.proofs.Laws.{content-null, content-words, content-alias, content-items, content-pairs, items-deeper, pairs-deeper, few-items, few-pairs, group-in, deeper-is}
+use Rattle.flow.proofs.Hushes.{hushed-items, hushed-pairs}
 use borrow.Author.Needs.{needs}
 use Prim.Native.Nat.{ℕ}
 use Rattle.flow.proofs.content.Reads as content
@@ -48,7 +49,7 @@ content-with-flow-requires t c κs = search needs
 
 -- src/lib.rt:92:17
 pub content-group-requires : (t : ℕ) → content-lts.Need-group-requires (content-claims t) (content-at t) content.Post
-content-group-requires t c κs = let q = c .before .before .before .before .before .before .before .before .before .pre .0 in let r = c .before .before .before .before .before .before .before .before .before .pre .1 .0 in let g = c .before .before .before .before .before .before .before .before .before .pre .1 .1 in let l = items-deeper (c .before .before .before .before .before .before .before .before .before .args .settings) _ (c .before .before .before .before .before .before .before .before .before .args .pool .now) (c .before .before .before .before .before .before .before .before .before .args .x) _ g (c .before .before .before .body3 .given .1) in (omega (arith, q, l, g .within), (group-in _ _ _ _ _ _ _ _ _ (c .before .with-flow .ensures) r l (g .within), few-items (c .before .before .before .before .before .before .before .before .before .args .x) _ (c .before .before .before .before .before .before .before .before .before .pre .1 .2) (c .before .before .before .body3 .given .1)))
+content-group-requires t c κs = let q = c .before .before .before .before .before .before .before .before .before .pre .0 in let r = c .before .before .before .before .before .before .before .before .before .pre .1 .0 in let g = c .before .before .before .before .before .before .before .before .before .pre .1 .1 in let l = items-deeper (c .before .before .before .before .before .before .before .before .before .args .settings) _ (c .before .before .before .before .before .before .before .before .before .args .pool .now) (c .before .before .before .before .before .before .before .before .before .args .x) _ g (c .before .before .before .body3 .given .1) in (omega (arith, q, l, g .within), (group-in _ _ _ _ _ _ _ _ _ (c .before .with-flow .ensures) r l (g .within), few-items (c .before .before .before .before .before .before .before .before .before .args .x) _ (c .before .before .before .before .before .before .before .before .before .pre .1 .2) (c .before .before .before .body3 .given .1), hushed-items _ _ _ (c .before .before .before .before .before .before .before .before .before .args .x) _ (c .before .before .before .body3 .given .1) (c .before .before .before .before .before .before .before .before .before .pre .1 .3)))
 
 -- src/lib.rt:93:13
 pub content-back-requires : (t : ℕ) → content-lts.Need-back-requires (content-claims t) (content-at t) content.Post
@@ -68,7 +69,7 @@ content-with-flow-requires-2 t c κs = search needs
 
 -- src/lib.rt:98:17
 pub content-group-requires-2 : (t : ℕ) → content-lts.Need-group-requires-2 (content-claims t) (content-at t) content.Post
-content-group-requires-2 t c κs = let q = c .before .before .before .before .before .before .before .before .before .pre .0 in let r = c .before .before .before .before .before .before .before .before .before .pre .1 .0 in let g = c .before .before .before .before .before .before .before .before .before .pre .1 .1 in let l = pairs-deeper (c .before .before .before .before .before .before .before .before .before .args .settings) _ (c .before .before .before .before .before .before .before .before .before .args .pool .now) (c .before .before .before .before .before .before .before .before .before .args .x) _ g (c .before .before .before .body4 .given .1) in (omega (arith, q, l, g .within), (group-in _ _ _ _ _ _ _ _ _ (c .before .with-flow2 .ensures) r l (g .within), few-pairs (c .before .before .before .before .before .before .before .before .before .args .x) _ (c .before .before .before .before .before .before .before .before .before .pre .1 .2) (c .before .before .before .body4 .given .1)))
+content-group-requires-2 t c κs = let q = c .before .before .before .before .before .before .before .before .before .pre .0 in let r = c .before .before .before .before .before .before .before .before .before .pre .1 .0 in let g = c .before .before .before .before .before .before .before .before .before .pre .1 .1 in let l = pairs-deeper (c .before .before .before .before .before .before .before .before .before .args .settings) _ (c .before .before .before .before .before .before .before .before .before .args .pool .now) (c .before .before .before .before .before .before .before .before .before .args .x) _ g (c .before .before .before .body4 .given .1) in (omega (arith, q, l, g .within), (group-in _ _ _ _ _ _ _ _ _ (c .before .with-flow2 .ensures) r l (g .within), few-pairs (c .before .before .before .before .before .before .before .before .before .args .x) _ (c .before .before .before .before .before .before .before .before .before .pre .1 .2) (c .before .before .before .body4 .given .1), hushed-pairs _ _ _ (c .before .before .before .before .before .before .before .before .before .args .x) _ (c .before .before .before .body4 .given .1) (c .before .before .before .before .before .before .before .before .before .pre .1 .3)))
 
 -- src/lib.rt:99:13
 pub content-back-requires-2 : (t : ℕ) → content-lts.Need-back-requires-2 (content-claims t) (content-at t) content.Post

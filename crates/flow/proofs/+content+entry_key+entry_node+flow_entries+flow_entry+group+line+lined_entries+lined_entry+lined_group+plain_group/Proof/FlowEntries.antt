@@ -2,6 +2,8 @@ use native.Mathlib.Omega.{arith}
 use Rattle.pen.specs.Pen.{pen}
 use Rattle.flow.specs.Ready.{after}
 use Rattle.flow.proofs.Laws.{Going, flowRuns, start, flow-step, flow-stop}
+use Rattle.flow.specs.Hushed.{treesIn, Hushed}
+use Rattle.flow.proofs.Hushes.{hushed-first, hushed-rest}
 use borrow.Author.Needs.{needs}
 use Prim.Native.Nat.{ℕ}
 use Rattle.flow.proofs.flow_entries.Reads as flow-entries
@@ -9,22 +11,24 @@ use Rattle.flow.proofs.+content+entry_key+entry_node+flow_entries+flow_
 use Rattle.flow.proofs.+content+entry_key+entry_node+flow_entries+flow_entry+group+line+lined_entries+lined_entry+lined_group+plain_group.Proof.Base.{flow-entries-at, flow-entries-claims}
 
 abbrev pub flow-entries-Inv-loop : flow-entries-lts.InvT-loop
-flow-entries-Inv-loop deck pool out₀ settings pairs n i v₀ here₀ left₀ first₀ out v here left first = Going settings deck pool i pairs (flowRuns settings deck pool i pairs (pen v₀ out₀)) (pen v₀ out₀) first₀ left₀ here₀ (pen v out) first left here
+flow-entries-Inv-loop deck pool out₀ settings pairs n i still v₀ here₀ left₀ first₀ out v here left first =
+    Going settings deck pool i pairs (flowRuns settings deck pool i pairs (pen v₀ out₀)) (pen v₀ out₀) first₀ left₀ here₀ (pen v out) first left here
+    × Hushed deck pool still (treesIn pairs left) here
 
 abbrev pub flow-entries-μ-loop : flow-entries-lts.MeasureT-loop
-flow-entries-μ-loop deck pool out₀ settings pairs n i v₀ here₀ left₀ first₀ out v here left first = left
+flow-entries-μ-loop deck pool out₀ settings pairs n i still v₀ here₀ left₀ first₀ out v here left first = left
 
 -- src/lib.rt:219:5
 pub flow-entries-loop-holds : (t : ℕ) → flow-entries-lts.Need-loop-holds (flow-entries-claims t) (flow-entries-at t) flow-entries.Post flow-entries-Inv-loop flow-entries-μ-loop
-flow-entries-loop-holds t c = start _ _ _ _ _ _ _ _ _ _ ((c .before .before .before .pre) .1)
+flow-entries-loop-holds t c = (start _ _ _ _ _ _ _ _ _ _ ((c .before .before .before .pre) .1 .0), (c .before .before .before .pre) .1 .1)
 
 -- src/lib.rt:220:13
 pub flow-entries-put-between-requires : (t : ℕ) → flow-entries-lts.Need-put-between-requires (flow-entries-claims t) (flow-entries-at t) flow-entries.Post flow-entries-Inv-loop flow-entries-μ-loop
-flow-entries-put-between-requires t c κs = let r = c .before .before .loop .inv .ready in let f = r .fit in let o = r .out-small in (omega (arith, f .column, o), omega (arith, o))
+flow-entries-put-between-requires t c κs = let r = c .before .before .loop .inv .0 .ready in let f = r .fit in let o = r .out-small in (omega (arith, f .column, o), omega (arith, o))
 
 -- src/lib.rt:221:13
 pub flow-entries-flow-entry-requires : (t : ℕ) → flow-entries-lts.Need-flow-entry-requires (flow-entries-claims t) (flow-entries-at t) flow-entries.Post flow-entries-Inv-loop flow-entries-μ-loop
-flow-entries-flow-entry-requires t c κs = let g = c .before .before .before .before .before .before .loop .inv in let r = g .ready in let q = (c .before .before .before .before .before .before .before .before .before .before .pre) .0 in (omega (arith, q, g .onward, r .here), after r _ _ _ (c .before .before .before .put-between .ensures))
+flow-entries-flow-entry-requires t c κs = let g = c .before .before .before .before .before .before .loop .inv .0 in let r = g .ready in let q = (c .before .before .before .before .before .before .before .before .before .before .pre) .0 in (omega (arith, q, g .onward, r .here), (after r _ _ _ (c .before .before .before .put-between .ensures), hushed-first _ _ _ _ _ _ (c .before .before .before .before .before .loop-test .taken) (c .before .before .before .before .before .before .loop .inv .1)))
 
 -- src/lib.rt:225:9
 pub flow-entries-sub-left : (t : ℕ) → flow-entries-lts.Need-sub-left (flow-entries-claims t) (flow-entries-at t) flow-entries.Post flow-entries-Inv-loop flow-entries-μ-loop
@@ -36,12 +40,12 @@ flow-entries-loop-less t c = search needs
 
 -- src/lib.rt:219:5
 pub flow-entries-loop-again : (t : ℕ) → flow-entries-lts.Need-loop-again (flow-entries-claims t) (flow-entries-at t) flow-entries.Post flow-entries-Inv-loop flow-entries-μ-loop
-flow-entries-loop-again t c = flow-step _ _ _ _ _ _ _ _ _ _ _ _ _ _ _ _ (c .before .before .before .before .before .before .before .before .before .before .before .loop .inv) (c .before .before .before .before .before .before .before .before .before .before .loop-test .taken) (c .before .before .before .before .before .before .before .before .put-between .ensures) (c .before .before .before .before .flow-entry .ensures)
+flow-entries-loop-again t c = (flow-step _ _ _ _ _ _ _ _ _ _ _ _ _ _ _ _ (c .before .before .before .before .before .before .before .before .before .before .before .loop .inv .0) (c .before .before .before .before .before .before .before .before .before .before .loop-test .taken) (c .before .before .before .before .before .before .before .before .put-between .ensures) (c .before .before .before .before .flow-entry .ensures), hushed-rest _ _ _ _ _ _ _ (c .before .before .before .before .before .before .before .before .before .before .loop-test .taken) (c .before .before .before .before .flow-entry .ensures .next) (c .before .before .before .before .before .before .before .before .before .before .before .loop .inv .1))
 
 -- src/lib.rt:201:1
 pub flow-entries-same-length : (t : ℕ) → flow-entries-lts.Need-same-length (flow-entries-claims t) (flow-entries-at t) flow-entries.Post flow-entries-Inv-loop flow-entries-μ-loop
-flow-entries-same-length t c = c .before .loop .inv .size
+flow-entries-same-length t c = c .before .loop .inv .0 .size
 
 -- src/lib.rt:201:1
 pub flow-entries-returns : (t : ℕ) → flow-entries-lts.Need-returns (flow-entries-claims t) (flow-entries-at t) flow-entries.Post flow-entries-Inv-loop flow-entries-μ-loop
-flow-entries-returns t c = flow-stop _ _ _ _ _ _ _ _ _ _ _ _ (c .before .loop .inv) (let z = c .loop-test .left in omega arith)
+flow-entries-returns t c = flow-stop _ _ _ _ _ _ _ _ _ _ _ _ (c .before .loop .inv .0) (let z = c .loop-test .left in omega arith)

@@ -1,6 +1,7 @@
 use native.Mathlib.Omega.{arith}
 use Rattle.flow.specs.Ready.{after, further}
 use Rattle.flow.proofs.Laws.{entry-emits}
+use Rattle.flow.proofs.Hushes.{hushed-last}
 use borrow.Author.Needs.{needs}
 use Prim.Native.Nat.{ℕ}
 use Rattle.flow.proofs.flow_entry.Reads as flow-entry
@@ -13,7 +14,7 @@ flow-entry-entry-key-requires t c κs = search needs
 
 -- src/lib.rt:294:5
 pub flow-entry-entry-node-requires : (t : ℕ) → flow-entry-lts.Need-entry-node-requires (flow-entry-claims t) (flow-entry-at t) flow-entry.Post
-flow-entry-entry-node-requires t c κs = let q = c .before .before .before .before .before .before .before .before .before .pre .0 in let r = c .before .before .before .before .before .before .before .before .before .pre .1 in let e = c .before .before .before .before .entry-key .ensures in (omega (arith, q, e .onward, e .within), further (after r _ _ _ (e .drawn)) _ (e .onward) (e .within))
+flow-entry-entry-node-requires t c κs = let q = c .before .before .before .before .before .before .before .before .before .pre .0 in let r = c .before .before .before .before .before .before .before .before .before .pre .1 .0 in let e = c .before .before .before .before .entry-key .ensures in (omega (arith, q, e .onward, e .within), (further (after r _ _ _ (e .drawn)) _ (e .onward) (e .within), hushed-last _ _ _ _ _ _ (e .next) (c .before .before .before .before .before .before .before .before .before .pre .1 .1)))
 
 -- src/lib.rt:279:1
 pub flow-entry-same-length : (t : ℕ) → flow-entry-lts.Need-same-length (flow-entry-claims t) (flow-entry-at t) flow-entry.Post

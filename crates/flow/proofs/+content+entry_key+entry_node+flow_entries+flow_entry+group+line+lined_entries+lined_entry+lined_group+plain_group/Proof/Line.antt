@@ -21,7 +21,7 @@ line-with-key-requires t c κs = search needs
 
 -- src/lib.rt:313:9
 pub line-content-requires : (t : ℕ) → line-lts.Need-content-requires (line-claims t) (line-at t) line.Post
-line-content-requires t c κs = let q = (c .before .before .before .before .before .before .before .before .before .before .pre) .0 in let p = (c .before .before .before .before .before .before .before .before .before .before .pre) .1 in (omega (arith, q), (keyed-at _ _ _ _ _ _ _ (c .before .with-key .ensures) (after-drawn (p .0) (c .before .before .before .before .before .put-dress .ensures)), p .1, p .2))
+line-content-requires t c κs = let q = (c .before .before .before .before .before .before .before .before .before .before .pre) .0 in let p = (c .before .before .before .before .before .before .before .before .before .before .pre) .1 in (omega (arith, q), (keyed-at _ _ _ _ _ _ _ (c .before .with-key .ensures) (after-drawn (p .0) (c .before .before .before .before .before .put-dress .ensures)), p .1, p .2, p .3))
 
 -- src/lib.rt:315:9
 pub line-with-key-requires-2 : (t : ℕ) → line-lts.Need-with-key-requires-2 (line-claims t) (line-at t) line.Post
