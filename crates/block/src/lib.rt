@@ -222,11 +222,14 @@ fn put_value(
         return put_under(w, deck, pool, out, settings, x, j, j, false);
     }
     let j = i + choices::step_of(settings);
-    if layout::is_beside(settings, pool, x) {
-        let w1 = layout::put_pad(w, out, x.lead.lines.pad);
-        return flow::line(w1, deck, pool, out, settings, x, j, Manner::Value, false);
+    if choices::bare(settings, pool, x.lead.lines, x.lead.remark, body) {
+        return layout::put_bare(w, deck, pool, out, x.lead, x.next);
     }
-    layout::put_apart(w, deck, pool, out, settings, x, j)
+    if parts::is_marked(x.lead.lines.marks, 2) {
+        return layout::put_below(w, deck, pool, out, settings, x, j);
+    }
+    let w1 = layout::put_pad(w, out, x.lead.lines.pad);
+    flow::line(w1, deck, pool, out, settings, x, j, Manner::Value, false)
 }
 
 // `emit_sequence_item_body` of the node at a cursor, its dash at column i.
@@ -252,11 +255,14 @@ fn put_dash(
         return put_dashed(w1, deck, pool, out, settings, x, i);
     }
     let j = i + 2;
-    if layout::is_beside(settings, pool, x) {
-        let w2 = layout::put_pad(w1, out, x.lead.lines.pad);
-        return flow::line(w2, deck, pool, out, settings, x, j, Manner::Value, false);
+    if choices::bare(settings, pool, x.lead.lines, x.lead.remark, body) {
+        return layout::put_bare(w1, deck, pool, out, x.lead, x.next);
     }
-    layout::put_apart(w1, deck, pool, out, settings, x, j)
+    if parts::is_marked(x.lead.lines.marks, 2) {
+        return layout::put_below(w1, deck, pool, out, settings, x, j);
+    }
+    let w2 = layout::put_pad(w1, out, x.lead.lines.pad);
+    flow::line(w2, deck, pool, out, settings, x, j, Manner::Value, false)
 }
 
 // A block collection after the dash at column i: on its line, or below it.

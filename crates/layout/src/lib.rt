@@ -13,7 +13,7 @@ ghost use lib.ListN.{length};
 ghost use Rattle.definition.specs.Base.{if_then_else_};
 ghost use Rattle.definition.specs.Pen.{nothing, indent};
 ghost use Rattle.definition.specs.Walk.{belowIntroducer, content};
-ghost use Rattle.node.specs.Total.{keptOf};
+ghost use Rattle.node.specs.Total.{keptOf, broughtOf};
 ghost use Rattle.pen.specs.Pen.{pen};
 ghost use Rattle.parts.specs.Draws.{Draws};
 ghost use Rattle.parts.specs.Runs.{Short};
@@ -22,8 +22,7 @@ ghost use Rattle.spot.specs.Spot.{keptIn, broughtIn, kindIn, nodeIn, endIn};
 ghost use Rattle.spot.specs.Good.{Good, countIn};
 ghost use Rattle.joints.specs.Entries.{nextAt};
 ghost use Rattle.flow.specs.Ready.{Ready, Emits};
-ghost use Rattle.layout.specs.Stretch.{includeAfter, keyLine};
-ghost use Rattle.layout.specs.Value.{besideIn, valueIn};
+ghost use Rattle.layout.specs.Stretch.{includeAfter, keyLine, bareLine};
 
 // An include's directive after `:` or `-`; the node's records are passed over.
 pub fn put_include(
@@ -45,7 +44,7 @@ pub fn put_include(
 }
 
 // `emit_value_below_introducer`
-fn put_below(
+pub fn put_below(
     w: Writer,
     deck: &[u8],
     pool: &[u8],
@@ -72,38 +71,21 @@ pub fn put_pad(w: Writer, out: &mut [u8], pad: usize) -> Writer
     w.spaces(out, pad)
 }
 
-// What is no block collection stands on the line of its `:` or `-`, and something is written of it.
-pub fn is_beside(settings: Settings, pool: &[u8], x: Spot) -> bool
-    ensures { λ r. ⌜ r ≡ besideIn settings (now (pool .entry)) x ⌝ }
-{
-    let body = x.body;
-    if choices::bare(settings, pool, x.lead.lines, x.lead.remark, body) {
-        return false;
-    }
-    !parts::is_marked(x.lead.lines.marks, 2)
-}
-
-// What is no block collection after `:` or `-`, but where it stands beside it: then its line is written where this would be called (docs/DECISIONS.md).
-pub fn put_apart(
+// A node of which nothing is written after its introducer but its properties; the cursor after it is handed back.
+pub fn put_bare(
     w: Writer,
     deck: &[u8],
     pool: &[u8],
     out: &mut [u8],
-    settings: Settings,
-    x: Spot,
-    i: usize,
+    lead: Lead,
+    next: Cursor,
 ) -> Emitted
-    requires { ⌜ (Ready settings (now deck) (now pool) (pen w (now out)) (x .place) i) × Good (now deck) x × (countIn (x .body) < 65536) × (w .flow ≡ 0) × (w .key ≡ 0) × (besideIn settings (now pool) x ≡ false) ⌝ }
-    ensures { λ r. ⌜ Emits settings (valueIn settings (now (deck .entry)) (now (pool .entry)) x i) (pen w (now (out .entry))) (pen (r .w) (now (out .exit))) (x .place) (endIn (now (deck .entry)) (now (pool .entry)) x) (r .next) (length (now (deck .entry))) ⌝ }
+    requires { ⌜ length (now out) < 2 ^ 62 ⌝ }
+    ensures { λ r. ⌜ (Draws (bareLine (broughtOf (now (deck .entry)) (now (pool .entry)) lead)) (pen w (now (out .entry))) (pen (r .w) (now (out .exit)))) × (r .next ≡ next) ⌝ }
 {
-    let body = x.body;
-    if choices::bare(settings, pool, x.lead.lines, x.lead.remark, body) {
-        let w1 = parts::put_props_compact(w, deck, pool, out, x.lead);
-        let w2 = w1.byte(out, b'\n');
-        let next = x.next;
-        return Emitted { w: w2, next };
-    }
-    put_below(w, deck, pool, out, settings, x, i)
+    let w1 = parts::put_props_compact(w, deck, pool, out, lead);
+    let w2 = w1.byte(out, b'\n');
+    Emitted { w: w2, next }
 }
 
 // A key after `?` that stands on its line.

@@ -42,8 +42,10 @@ use Rattle.choices.proofs.on_dash_line.Reads as on-dash-line-reads
 use Rattle.choices.proofs.step_of.Reads as step-of-reads
 use Rattle.choices.proofs.value_column.Reads as value-column-reads
 use Rattle.flow.proofs.line.Reads as line-reads
-use Rattle.layout.proofs.is_beside.Reads as is-beside-reads
-use Rattle.layout.proofs.put_apart.Reads as put-apart-reads
+use Rattle.choices.proofs.bare.Reads as bare-reads
+use Rattle.parts.proofs.is_marked.Reads as is-marked-reads
+use Rattle.layout.proofs.put_bare.Reads as put-bare-reads
+use Rattle.layout.proofs.put_below.Reads as put-below-reads
 use Rattle.layout.proofs.put_before.Reads as put-before-reads
 use Rattle.layout.proofs.put_include.Reads as put-include-reads
 use Rattle.layout.proofs.put_key_line.Reads as put-key-line-reads
@@ -161,14 +163,18 @@ put-dash-claims t = (
   is-block-reads.Learnt,
   put-dashed-below t,
   put-dashed.Post,
-  is-beside-reads.Asked,
-  is-beside-reads.Learnt,
+  bare-reads.Asked,
+  bare-reads.Learnt,
+  put-bare-reads.Asked,
+  put-bare-reads.Learnt,
+  is-marked-reads.Asked,
+  is-marked-reads.Learnt,
+  put-below-reads.Asked,
+  put-below-reads.Learnt,
   put-pad-reads.Asked,
   put-pad-reads.Learnt,
   line-reads.Asked,
   line-reads.Learnt,
-  put-apart-reads.Asked,
-  put-apart-reads.Learnt,
 )
 
 abbrev pub put-dashed-claims : ℕ → put-dashed-lts.Claims
@@ -277,12 +283,16 @@ put-value-claims t = (
   put-under.Post,
   step-of-reads.Asked,
   step-of-reads.Learnt,
-  is-beside-reads.Asked,
-  is-beside-reads.Learnt,
+  bare-reads.Asked,
+  bare-reads.Learnt,
+  put-bare-reads.Asked,
+  put-bare-reads.Learnt,
+  is-marked-reads.Asked,
+  is-marked-reads.Learnt,
+  put-below-reads.Asked,
+  put-below-reads.Learnt,
   put-pad-reads.Asked,
   put-pad-reads.Learnt,
   line-reads.Asked,
   line-reads.Learnt,
-  put-apart-reads.Asked,
-  put-apart-reads.Learnt,
 )

@@ -1,7 +1,7 @@
 use native.Mathlib.Omega.{arith}
 use mathlib.Core.Path.{refl, sym, _∙_}
 use Rattle.flow.specs.Ready.{after-drawn}
-use Rattle.layout.specs.Value.{value-beside}
+use Rattle.layout.specs.Value.{value-bare, value-below, value-beside}
 use Rattle.layout.specs.Calm.{calm-inside, in-line}
 use Rattle.block.proofs.Laws.{deeper, value-included, value-block, value-plain}
 use Rattle.spot.specs.Good.{spot-good, few-spot}
@@ -61,26 +61,38 @@ put-value-step-of-requires t c κs = search needs
 pub put-value-add-j : (t : ℕ) → put-value-lts.Need-add-j (put-value-claims t) (put-value-at t) put-value.Post
 put-value-add-j t c = let p = (c .before .before .before .before .before .before .before .before .before .pre) .1 in let e = c .step-of .ensures .1 (p .ready .step) in omega (arith, e, p .column)
 
-pub put-value-is-beside-requires : (t : ℕ) → put-value-lts.Need-is-beside-requires (put-value-claims t) (put-value-at t) put-value.Post
-put-value-is-beside-requires t c κs = search needs
+pub put-value-bare-requires : (t : ℕ) → put-value-lts.Need-bare-requires (put-value-claims t) (put-value-at t) put-value.Post
+put-value-bare-requires t c κs = search needs
 
-pub put-value-put-pad-requires : (t : ℕ) → put-value-lts.Need-put-pad-requires (put-value-claims t) (put-value-at t) put-value.Post
-put-value-put-pad-requires t c κs = search needs
-
-pub put-value-line-requires : (t : ℕ) → put-value-lts.Need-line-requires (put-value-claims t) (put-value-at t) put-value.Post
-put-value-line-requires t c κs = let p = (c .before .before .before .before .before .before .before .before .before .before .before .before .before .before .before .before .pre) .1 in let r = p .ready in let g = spot-good _ _ _ (r .here) (r .deck-small) (c .before .before .before .before .before .before .before .before .before .before .before .before .spot-at .ensures) in let e = c .before .before .before .before .before .before .before .step-of .ensures .1 (r .step) in (after-drawn (in-line p _ _ (g .1) (g .2) (omega (arith, e))) (c .before .before .before .put-pad .ensures), g .0, few-spot _ (λ k. omega (arith, c .before .before .before .before .before .before .before .before .before .before .before .before .before .before .before .shared-slice-known .given k)) _ _ (r .here) (c .before .before .before .before .before .before .before .before .before .before .before .before .spot-at .ensures), untold-in _ _ _)
+pub put-value-put-bare-requires : (t : ℕ) → put-value-lts.Need-put-bare-requires (put-value-claims t) (put-value-at t) put-value.Post
+put-value-put-bare-requires t c κs = search needs
 
 pub put-value-same-length-3 : (t : ℕ) → put-value-lts.Need-same-length-3 (put-value-claims t) (put-value-at t) put-value.Post
 put-value-same-length-3 t c = search needs
 
 pub put-value-returns-3 : (t : ℕ) → put-value-lts.Need-returns-3 (put-value-claims t) (put-value-at t) put-value.Post
-put-value-returns-3 t c = let p = (c .before .before .before .before .before .before .before .before .before .before .before .before .before .before .before .before .before .before .before .pre) .1 in value-plain _ _ _ _ _ _ _ _ _ _ _ (p .ready .here) (p .ready .deck-small) (c .before .before .before .before .before .before .before .before .before .before .before .before .before .before .before .spot-at .ensures) (c .before .before .before .before .before .before .before .before .before .before .before .before .before .before .is-included .ensures) (c .before .before .before .before .before .before .before .before .before .before .before .before .before .if1 .left) (c .before .before .before .before .before .before .before .before .before .before .before .before .is-block .ensures) (c .before .before .before .before .before .before .before .before .before .before .before .if2 .left) (c .before .before .before .before .before .before .before .before .before .before .step-of .ensures .0) refl (value-beside _ _ _ _ _ _ _ _ _ _ (p .flow) (p .key) (c .before .before .before .before .before .before .before .before .before .is-beside .ensures) (c .before .before .before .before .before .before .before .before .if3 .taken) (c .before .before .before .before .before .before .put-pad .ensures) (c .before .before .line .ensures))
+put-value-returns-3 t c = let r = (c .before .before .before .before .before .before .before .before .before .before .before .before .before .before .before .pre) .1 .ready in let g = spot-good _ _ _ (r .here) (r .deck-small) (c .before .before .before .before .before .before .before .before .before .before .before .spot-at .ensures) in value-plain _ _ _ _ _ _ _ _ _ _ _ (r .here) (r .deck-small) (c .before .before .before .before .before .before .before .before .before .before .before .spot-at .ensures) (c .before .before .before .before .before .before .before .before .before .before .is-included .ensures) (c .before .before .before .before .before .before .before .before .before .if1 .left) (c .before .before .before .before .before .before .before .before .is-block .ensures) (c .before .before .before .before .before .before .before .if2 .left) (c .before .before .before .before .before .before .step-of .ensures .0) refl (value-bare _ _ _ _ _ _ (c .before .before .before .before .before .bare .ensures) _ (g .0) (c .before .before .before .before .if3 .taken) (c .before .before .put-bare .ensures .0) (c .before .before .put-bare .ensures .1))
 
-pub put-value-put-apart-requires : (t : ℕ) → put-value-lts.Need-put-apart-requires (put-value-claims t) (put-value-at t) put-value.Post
-put-value-put-apart-requires t c κs = let p = (c .before .before .before .before .before .before .before .before .before .before .before .before .pre) .1 in let r = p .ready in let g = spot-good _ _ _ (r .here) (r .deck-small) (c .before .before .before .before .before .before .before .before .spot-at .ensures) in let e = c .before .before .before .step-of .ensures .1 (r .step) in (in-line p _ _ (g .1) (g .2) (omega (arith, e)), g .0, few-spot _ (λ k. omega (arith, c .before .before .before .before .before .before .before .before .before .before .before .shared-slice-known .given k)) _ _ (r .here) (c .before .before .before .before .before .before .before .before .spot-at .ensures), p .flow, p .key, sym (c .before .before .is-beside .ensures) ∙ c .before .if3 .left)
+pub put-value-is-marked-requires : (t : ℕ) → put-value-lts.Need-is-marked-requires (put-value-claims t) (put-value-at t) put-value.Post
+put-value-is-marked-requires t c κs = search needs
+
+pub put-value-put-below-requires : (t : ℕ) → put-value-lts.Need-put-below-requires (put-value-claims t) (put-value-at t) put-value.Post
+put-value-put-below-requires t c κs = let p = (c .before .before .before .before .before .before .before .before .before .before .before .before .before .before .pre) .1 in let r = p .ready in let g = spot-good _ _ _ (r .here) (r .deck-small) (c .before .before .before .before .before .before .before .before .before .before .spot-at .ensures) in let e = c .before .before .before .before .before .step-of .ensures .1 (r .step) in (in-line p _ _ (g .1) (g .2) (omega (arith, e)), g .0, few-spot _ (λ k. omega (arith, c .before .before .before .before .before .before .before .before .before .before .before .before .before .shared-slice-known .given k)) _ _ (r .here) (c .before .before .before .before .before .before .before .before .before .before .spot-at .ensures), p .flow, p .key)
 
 pub put-value-same-length-4 : (t : ℕ) → put-value-lts.Need-same-length-4 (put-value-claims t) (put-value-at t) put-value.Post
 put-value-same-length-4 t c = search needs
 
 pub put-value-returns-4 : (t : ℕ) → put-value-lts.Need-returns-4 (put-value-claims t) (put-value-at t) put-value.Post
-put-value-returns-4 t c = let r = (c .before .before .before .before .before .before .before .before .before .before .before .before .before .before .before .pre) .1 .ready in value-plain _ _ _ _ _ _ _ _ _ _ _ (r .here) (r .deck-small) (c .before .before .before .before .before .before .before .before .before .before .before .spot-at .ensures) (c .before .before .before .before .before .before .before .before .before .before .is-included .ensures) (c .before .before .before .before .before .before .before .before .before .if1 .left) (c .before .before .before .before .before .before .before .before .is-block .ensures) (c .before .before .before .before .before .before .before .if2 .left) (c .before .before .before .before .before .before .step-of .ensures .0) refl (c .before .before .put-apart .ensures)
+put-value-returns-4 t c = let r = (c .before .before .before .before .before .before .before .before .before .before .before .before .before .before .before .before .before .pre) .1 .ready in value-plain _ _ _ _ _ _ _ _ _ _ _ (r .here) (r .deck-small) (c .before .before .before .before .before .before .before .before .before .before .before .before .before .spot-at .ensures) (c .before .before .before .before .before .before .before .before .before .before .before .before .is-included .ensures) (c .before .before .before .before .before .before .before .before .before .before .before .if1 .left) (c .before .before .before .before .before .before .before .before .before .before .is-block .ensures) (c .before .before .before .before .before .before .before .before .before .if2 .left) (c .before .before .before .before .before .before .before .before .step-of .ensures .0) refl (value-below _ _ _ _ _ _ (c .before .before .before .before .before .before .before .bare .ensures) (c .before .before .before .before .before .before .if3 .left) _ (c .before .before .before .before .before .is-marked .ensures) _ (c .before .before .before .before .if4 .taken) (c .before .before .put-below .ensures))
+
+pub put-value-put-pad-requires : (t : ℕ) → put-value-lts.Need-put-pad-requires (put-value-claims t) (put-value-at t) put-value.Post
+put-value-put-pad-requires t c κs = search needs
+
+pub put-value-line-requires : (t : ℕ) → put-value-lts.Need-line-requires (put-value-claims t) (put-value-at t) put-value.Post
+put-value-line-requires t c κs = let p = (c .before .before .before .before .before .before .before .before .before .before .before .before .before .before .before .before .before .before .pre) .1 in let r = p .ready in let g = spot-good _ _ _ (r .here) (r .deck-small) (c .before .before .before .before .before .before .before .before .before .before .before .before .before .before .spot-at .ensures) in let e = c .before .before .before .before .before .before .before .before .before .step-of .ensures .1 (r .step) in (after-drawn (in-line p _ _ (g .1) (g .2) (omega (arith, e))) (c .before .before .before .put-pad .ensures), g .0, few-spot _ (λ k. omega (arith, c .before .before .before .before .before .before .before .before .before .before .before .before .before .before .before .before .before .shared-slice-known .given k)) _ _ (r .here) (c .before .before .before .before .before .before .before .before .before .before .before .before .before .before .spot-at .ensures), untold-in _ _ _)
+
+pub put-value-same-length-5 : (t : ℕ) → put-value-lts.Need-same-length-5 (put-value-claims t) (put-value-at t) put-value.Post
+put-value-same-length-5 t c = search needs
+
+pub put-value-returns-5 : (t : ℕ) → put-value-lts.Need-returns-5 (put-value-claims t) (put-value-at t) put-value.Post
+put-value-returns-5 t c = let p = (c .before .before .before .before .before .before .before .before .before .before .before .before .before .before .before .before .before .before .before .before .before .pre) .1 in let r = p .ready in value-plain _ _ _ _ _ _ _ _ _ _ _ (r .here) (r .deck-small) (c .before .before .before .before .before .before .before .before .before .before .before .before .before .before .before .before .before .spot-at .ensures) (c .before .before .before .before .before .before .before .before .before .before .before .before .before .before .before .before .is-included .ensures) (c .before .before .before .before .before .before .before .before .before .before .before .before .before .before .before .if1 .left) (c .before .before .before .before .before .before .before .before .before .before .before .before .before .before .is-block .ensures) (c .before .before .before .before .before .before .before .before .before .before .before .before .before .if2 .left) (c .before .before .before .before .before .before .before .before .before .before .before .before .step-of .ensures .0) refl (value-beside _ _ _ _ _ _ (c .before .before .before .before .before .before .before .before .before .before .before .bare .ensures) (c .before .before .before .before .before .before .before .before .before .before .if3 .left) _ (c .before .before .before .before .before .before .before .before .before .is-marked .ensures) _ _ _ _ (c .before .before .before .before .before .before .before .before .if4 .left) (p .flow) (p .key) (c .before .before .before .before .before .before .put-pad .ensures) (c .before .before .line .ensures))

@@ -1,0 +1,21 @@
+-- `layout::put_bare` meets its contract.
+use mathlib.Core.Path.{refl}
+use borrow.Author.Needs.{needs}
+use Rattle.layout.proofs.Laws.{bare-whole}
+use Rattle.layout.proofs.put_bare.Statement.{statement}
+use Rattle.layout.proofs.put_bare.Tie as tie
+
+put-props-compact-requires : tie.Need-put-props-compact-requires
+put-props-compact-requires c κs = search needs
+
+byte-requires : tie.Need-byte-requires
+byte-requires c κs = search needs
+
+same-length : tie.Need-same-length
+same-length c = search needs
+
+returns : tie.Need-returns
+returns c = (bare-whole _ (c .before .before .before .before .before .before .put-props-compact .ensures) (c .before .before .byte .ensures), refl)
+
+pub put-bare-spec : {M : Type 1} → statement M
+put-bare-spec = tie.close (tie.spec put-props-compact-requires byte-requires same-length returns)
