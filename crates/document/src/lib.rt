@@ -146,7 +146,10 @@ fn put_inlined(
     ensures { λ r. ⌜ Emits settings (lineRoot settings (now (deck .entry)) (now (pool .entry)) x) (pen w (now (out .entry))) (pen (r .w) (now (out .exit))) (x .place) (endIn (now (deck .entry)) (now (pool .entry)) x) (r .next) (length (now (deck .entry))) ⌝ }
 {
     let i = choices::step_of(settings);
-    flow::line(w, deck, pool, out, settings, x, i, Manner::Value, false)
+    let e = flow::line(w, deck, pool, out, settings, x, i, Manner::Value, false);
+    let next = e.next;
+    let v = e.w.anew();
+    Emitted { w: v, next }
 }
 
 // The root's include is written in its place.
