@@ -10,8 +10,8 @@ use Rattle.definition.specs.Base.{Bytes, if_then_else_}
 use Rattle.definition.specs.Ascii.{LF, SP, '-', '?'}
 use Rattle.definition.specs.Settings.{stepOf}
 use Rattle.definition.specs.Tree.{Node, kept}
-use Rattle.definition.specs.Pen.{mark, space, Script, nothing, newline, sign}
-use Rattle.definition.specs.Walk.{propsCompact, included, isBlock, colonBlock, dashBlock, dashCompact, valueOf, bare, valueColumn, itemColumn, onDashLine, content, value, dash, keyBelow, members}
+use Rattle.definition.specs.Pen.{mark, Script, nothing, sign}
+use Rattle.definition.specs.Walk.{included, isBlock, colonBlock, dashBlock, dashCompact, valueOf, bare, valueColumn, itemColumn, onDashLine, content, value, dash, keyBelow, members}
 use Rattle.definition.specs.declared.Cursor.{Cursor}
 use Rattle.definition.specs.declared.Settings.{Settings}
 use Rattle.node.specs.Total.{broughtOf}
@@ -31,7 +31,7 @@ use Rattle.joints.specs.Entries.{nodeAt, nextAt, lastOf, entryEnd, runEnd, keyO
 use Rattle.flow.specs.Ready.{Emits, kept-length, at-cursor}
 use Rattle.layout.specs.Calm.{Calm, calm-after, calm-further}
 use Rattle.layout.specs.Emitting.{drawn-first, drawn-last, emits-yes, emits-no}
-use Rattle.layout.specs.Stretch.{includeAfter, keyLine}
+use Rattle.layout.specs.Stretch.{includeAfter, keyLine, bareLine}
 use Rattle.block.specs.Rows.{openingOf, underOf, dashIn, Footed, Coloned, explicitKey, keyPart, itemRow, pairRow, rowOf, rows, rows-items, rows-pairs}
 
 -- ---- the node at a cursor
@@ -179,11 +179,13 @@ module _ (s : Settings) (deck pool : Bytes) where
       emits-no _ _ _ (explicit-is deck pool first x ∙ sym f ∙ t) (rw (line-key deck pool s (on (P .w .flow)) (on (P .w .key)) i (nodeIn deck pool x), o) at m)
 
   pub key-below-block :
-      (i j n : ℕ) (r : Cursor) (x : Spot) (b : Bool) {P₀ P₁ P₂ P₃ : Pen} → n ≡ stepOf s → j ≡ i + n → b ≡ blockIn (x .body) → b ≡ true
-      → Draws (propsCompact (broughtOf deck pool (x .lead))) P₀ P₁ → P₂ ≡ put1 P₁ LF → Emits s (members s j true (kindIn deck pool x)) P₂ P₃ (x .place) (endIn deck pool x) r (length deck)
-      → Emits s (keyBelow s i (nodeIn deck pool x)) P₀ P₃ (x .place) (endIn deck pool x) r (length deck)
-  unfolding keyBelow nodeIn newline
-  key-below-block i j n r x b h k f t d p m = emits-yes _ _ _ (block-is deck pool (x .body) (x .next) ∙ sym f ∙ t) (drawn-first _ _ d (drawn-first _ _ (of-byte space LF p) (rw (k, h) at m)))
+      (i j n : ℕ) (r : Cursor) (x : Spot) (b : Bool) {P₀ P₁ P₂ : Pen} → n ≡ stepOf s → j ≡ i + n → b ≡ blockIn (x .body) → b ≡ true
+      → Draws (bareLine (broughtOf deck pool (x .lead))) P₀ P₁ → Emits s (members s j true (kindIn deck pool x)) P₁ P₂ (x .place) (endIn deck pool x) r (length deck)
+      → Emits s (keyBelow s i (nodeIn deck pool x)) P₀ P₂ (x .place) (endIn deck pool x) r (length deck)
+  unfolding ink keyBelow nodeIn bareLine
+  key-below-block i j n r x b h k f t d m =
+      let e = drawn-first _ _ d (rw (k, h) at m) in
+      emits-yes _ _ _ (block-is deck pool (x .body) (x .next) ∙ sym f ∙ t) (record { drawn = e .drawn; next = e .next; onward = e .onward; within = e .within })
 
   pub key-below-line :
       (i j n : ℕ) (r : Cursor) (x : Spot) (b : Bool) {P Q : Pen} → n ≡ stepOf s → j ≡ i + n → b ≡ blockIn (x .body) → b ≡ false

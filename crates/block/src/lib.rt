@@ -192,9 +192,8 @@ fn put_question(
     let body = x.body;
     let j = i + choices::step_of(settings);
     if choices::is_block(body) {
-        let w1 = parts::put_props_compact(w, deck, pool, out, x.lead);
-        let w2 = w1.byte(out, b'\n');
-        return put_members(w2, deck, pool, out, settings, x, j, true);
+        let w1 = layout::put_dressed(w, deck, pool, out, x.lead);
+        return put_members(w1, deck, pool, out, settings, x, j, true);
     }
     layout::put_key_line(w, deck, pool, out, settings, x, j)
 }

@@ -6,8 +6,8 @@ use native.Mathlib.Omega.{arith}
 use mathlib.Core.Bool.{Bool, true, false, not, _&&_, true≢false}
 use mathlib.Core.List.{[], _∷_}
 use lib.ListN.{length, getD}
-use lib.Dec.{eqb}
-use borrow.Author.Tests.{eqb-true, le-leb, lt-leb, not-true}
+use lib.Dec.{eqb, leb}
+use borrow.Author.Tests.{eqb-true, leb-true, leb-false, le-leb, lt-leb, not-true}
 use Rattle.definition.specs.Base.{Bytes, if_then_else_}
 use Rattle.definition.specs.Settings.{stepOf}
 use Rattle.definition.specs.Deck.{marked, layoutOf}
@@ -18,7 +18,7 @@ use Rattle.definition.specs.Document.{directives, body, bom, document, oneDocum
 use Rattle.definition.specs.declared.Cursor.{Cursor}
 use Rattle.definition.specs.declared.Lines.{Lines}
 use Rattle.definition.specs.declared.Settings.{Settings}
-use Rattle.laws.specs.Tests.{both-left, both-right}
+use Rattle.laws.specs.Tests.{by-test, both-left, both-right}
 use Rattle.node.specs.declared.Held.{Held}
 use Rattle.node.specs.declared.Lead.{Lead}
 use Rattle.node.specs.declared.Remark.{Remark}
@@ -43,7 +43,7 @@ use Rattle.layout.specs.Calm.{Calm, calm-further}
 use Rattle.layout.specs.Emitting.{drawn-first, drawn-last, calm-line, line-value}
 use Rattle.block.specs.Rows.{Footed}
 use Rattle.document.specs.Root.{calm-emits}
-use Rattle.document.specs.Pieces.{startIn, stopIn, plainIn, opened, frontIn, placedOf, blockRoot, lineRoot, rootOf, front-is}
+use Rattle.document.specs.Pieces.{startIn, stopIn, plainIn, opened, frontIn, placedOf, leftAfter, placedFrom, blockRoot, lineRoot, rootOf, front-is}
 
 -- nothing stands before the root
 pub plain-opened : (deck pool : Bytes) (l : Lead) {P : Pen} → plainIn l ≡ true → Draws (opened deck pool l) P P
@@ -56,13 +56,6 @@ plain-opened deck pool l t =
     let d = eqb-true n 0 (both-left (eqb n 0) _ u) in
     let h = eqb-true k 0 (both-right (eqb n 0) _ u) in
     record { drawn = λ s. rw (d, h, not-true m (both-right (eqb n 0 && eqb k 0) _ t)) }
-
--- a document, and what the settings ask for after it
-pub one-whole :
-    (s : Settings) (passed : Bool) (n : Node) (c r : Cursor) {k l : ℕ} {P Q R : Pen} → Emits s (placedOf s true passed n) P Q k c r l → Draws (stopIn s) Q R
-    → Emits s (oneDocument s passed n) P R k c r l
-unfolding ink placedOf oneDocument stopIn
-one-whole s passed n c r m z = let e = drawn-last (placedOf s true passed n) (stopIn s) m z in record { drawn = e .drawn; next = e .next; onward = e .onward; within = e .within }
 
 module _ (s : Settings) (deck pool : Bytes) where
   -- ---- a root
@@ -207,68 +200,85 @@ module _ (s : Settings) (deck pool : Bytes) where
   -- ---- the documents of a deck
 
   -- the first of the trees from a cursor on, and the others
-  trees-first : (n : ℕ) (c : Cursor) → 0 < n → c .at < length deck → treesFrom deck pool n c ≡ nodeAt deck pool c ∷ treesFrom deck pool (n - 1) (nextAt deck pool c)
+  trees-first : (n : ℕ) (c : Cursor) → c .at < length deck → treesFrom deck pool (suc n) c ≡ nodeAt deck pool c ∷ treesFrom deck pool n (nextAt deck pool c)
   unfolding treesFrom
-  trees-first zero c l h = absurd (omega arith)
-  trees-first (suc m) c l h = let z : suc m - 1 ≡ m = omega arith in rw (z, lt-leb (length deck) (c .at) h)
+  trees-first n c h = rw (lt-leb (length deck) (c .at) h)
 
   trees-none : (n : ℕ) (c : Cursor) → length deck ≤ c .at → treesFrom deck pool n c ≡ []
   unfolding treesFrom
   trees-none zero c h = refl
   trees-none (suc m) c h = rw (le-leb (length deck) (c .at) h)
 
-  abbrev pub restOf : ℕ → Cursor → Script
-  restOf n c = laterDocuments s (treesFrom deck pool n c)
-
   -- finishing from here ends as finishing from the start would
-  pub record Pending (P₀ : Pen) (left₀ : ℕ) (here₀ : Cursor) (P : Pen) (left : ℕ) (here : Cursor) : Type 0 where
-    pub same : ink s (restOf left here) P ≡ ink s (restOf left₀ here₀) P₀
+  pub record Pending (passed : Bool) (P₀ : Pen) (left₀ : ℕ) (here₀ : Cursor) (P : Pen) (first : Bool) (left : ℕ) (here : Cursor) : Type 0 where
+    pub same : ink s (placedFrom s deck pool passed first left here) P ≡ ink s (placedFrom s deck pool passed true left₀ here₀) P₀
     pub size : length (P .out) ≡ length (P₀ .out)
     pub calm : Calm s deck pool P (here .at) 0
 
-  pub rest-start : (P : Pen) (n : ℕ) (c : Cursor) → Calm s deck pool P (c .at) 0 → Pending P n c P n c
-  rest-start P n c b = record { same = refl; size = refl; calm = b }
+  pub file-start : (passed : Bool) (P : Pen) (n : ℕ) (c : Cursor) → Calm s deck pool P (c .at) 0 → Pending passed P n c P true n c
+  file-start passed P n c b = record { same = refl; size = refl; calm = b }
 
-  pub rest-turn :
-      (P₀ : Pen) (left₀ : ℕ) (here₀ : Cursor) (P Q : Pen) (left : ℕ) (here next : Cursor) → Pending P₀ left₀ here₀ P left here → 0 < left → here .at < length deck
-      → Emits s (placedOf s false false (nodeAt deck pool here)) P Q (here .at) (nextAt deck pool here) next (length deck)
-      → Pending P₀ left₀ here₀ Q (left - 1) next
-  unfolding ink laterDocuments placedOf
-  rest-turn P₀ left₀ here₀ P Q left here next g l h m =
-      let t : ink s (restOf left here) P ≡ ink s (restOf (left - 1) (nextAt deck pool here)) Q = rw (trees-first left here l h, m .drawn) in
-      let u : ink s (restOf (left - 1) next) Q ≡ ink s (restOf (left - 1) (nextAt deck pool here)) Q = ap (λ (d : Cursor). ink s (restOf (left - 1) d) Q) (m .next) in
+  pub file-turn :
+      (passed : Bool) (P₀ : Pen) (left₀ : ℕ) (here₀ : Cursor) (P Q : Pen) (first : Bool) (left : ℕ) (here next : Cursor) (n : ℕ) → Pending passed P₀ left₀ here₀ P first left here → 0 < left
+      → Emits s (placedOf s first passed (nodeAt deck pool here)) P Q (here .at) (nextAt deck pool here) next (length deck) → n ≡ leftAfter deck next left
+      → Pending passed P₀ left₀ here₀ Q false n next
+  unfolding ink placedFrom leftAfter
+  file-turn passed P₀ left₀ here₀ P Q first zero here next n g l m e = absurd (omega arith)
+  file-turn passed P₀ left₀ here₀ P Q first (suc k) here next n g l m e =
+      let d = nextAt deck pool here in
+      let f : Cursor → Script = λ c. if leb (length deck) (c .at) then nothing else placedFrom s deck pool passed false k c in
+      let t : ink s (f d) Q ≡ ink s (placedFrom s deck pool passed true left₀ here₀) P₀ = ap (ink s (f d)) (m .drawn) ∙ g .same in
+      let u : ink s (f next) Q ≡ ink s (f d) Q = ap (λ (c : Cursor). ink s (f c) Q) (m .next) in
       record {
-        same = u ∙ sym t ∙ g .same;
-        size = length-of s (placedOf s false false (nodeAt deck pool here)) P Q (m .drawn) ∙ g .size;
+        same = rw e (go (leb (length deck) (next .at)) ∙ u ∙ t);
+        size = length-of s (placedOf s first passed (nodeAt deck pool here)) P Q (m .drawn) ∙ g .size;
         calm = calm-emits (g .calm) m;
       }
+    where
+      go : (b : Bool) → ink s (placedFrom s deck pool passed false (if b then 0 else suc k - 1) next) Q ≡ ink s (if b then nothing else placedFrom s deck pool passed false k next) Q
+      go true = refl
+      go false = let z : suc k - 1 ≡ k = omega arith in rw z
 
-  pub rest-end :
-      (P₀ : Pen) (left₀ : ℕ) (here₀ : Cursor) (P : Pen) (left : ℕ) (here : Cursor) → Pending P₀ left₀ here₀ P left here → length deck ≤ here .at
-      → P ≡ ink s (restOf left₀ here₀) P₀
-  unfolding ink laterDocuments nothing puts
-  rest-end P₀ left₀ here₀ P left here g h = let e : ink s (restOf left here) P ≡ P = rw (trees-none left here h) in sym e ∙ g .same
+  pub file-end :
+      (passed : Bool) (P₀ : Pen) (left₀ : ℕ) (here₀ : Cursor) (P : Pen) (first : Bool) (left : ℕ) (here : Cursor) → Pending passed P₀ left₀ here₀ P first left here → left ≡ 0
+      → P ≡ ink s (placedFrom s deck pool passed true left₀ here₀) P₀
+  unfolding ink nothing puts placedFrom
+  file-end passed P₀ left₀ here₀ P first left here g z = let e : ink s (placedFrom s deck pool passed first left here) P ≡ P = rw z in sym e ∙ g .same
 
-  pub rest-out :
-      (P₀ : Pen) (left₀ : ℕ) (here₀ : Cursor) (P : Pen) (left : ℕ) (here : Cursor) → Pending P₀ left₀ here₀ P left here → left ≡ 0
-      → P ≡ ink s (restOf left₀ here₀) P₀
-  unfolding ink laterDocuments nothing puts treesFrom
-  rest-out P₀ left₀ here₀ P left here g z = let e : ink s (restOf left here) P ≡ P = rw z in sym e ∙ g .same
+  -- ---- one document, and what the settings ask for after it
 
-  pub all-none : (P : Pen) → length deck ≡ 0 → P ≡ ink s (allDocuments s (treesOf deck pool)) P
-  unfolding ink allDocuments nothing puts treesOf treesFrom
-  all-none P z = rw z
+  pub one-whole :
+      (passed : Bool) (c : Cursor) (P : Pen) {Q R : Pen} → Q ≡ ink s (placedFrom s deck pool passed true 1 c) P → Draws (stopIn s) Q R
+      → R ≡ ink s (oneDocument s passed (nodeAt deck pool c)) P
+  unfolding ink placedFrom placedOf oneDocument stopIn nothing puts
+  one-whole passed c P m z = z .drawn s ∙ ap (ink s (stopIn s)) (m ∙ go (leb (length deck) (nextAt deck pool c .at)))
+    where
+      go : (b : Bool) → ink s (if b then nothing else nothing) (ink s (placedOf s true passed (nodeAt deck pool c)) P) ≡ ink s (placedOf s true passed (nodeAt deck pool c)) P
+      go true = refl
+      go false = refl
 
-  pub all-whole :
-      (c r : Cursor) {P Q R : Pen} → c .at ≡ 0 → 0 < length deck
-      → Emits s (placedOf s true false (nodeAt deck pool c)) P Q (c .at) (nextAt deck pool c) r (length deck)
-      → R ≡ ink s (restOf (length deck - 1) r) Q → R ≡ ink s (allDocuments s (treesOf deck pool)) P
-  unfolding ink allDocuments placedOf treesOf
-  all-whole c r {P} {Q} {R} z l m h =
-      let t : treesFrom deck pool (length deck) c ≡ nodeAt deck pool c ∷ treesFrom deck pool (length deck - 1) (nextAt deck pool c) = trees-first (length deck) c l (omega (arith, z, l)) in
-      let u : treesOf deck pool ≡ nodeAt deck pool c ∷ treesFrom deck pool (length deck - 1) (nextAt deck pool c) = ap (treesFrom deck pool (length deck)) (start z) ∙ t in
-      let v : R ≡ ink s (restOf (length deck - 1) (nextAt deck pool c)) Q = h ∙ ap (λ (d : Cursor). ink s (restOf (length deck - 1) d) Q) (m .next) in
-      rw u (v ∙ ap (ink s (restOf (length deck - 1) (nextAt deck pool c))) (m .drawn))
+  -- ---- all documents
+
+  rest-is :
+      (n : ℕ) (c : Cursor) (Q : Pen) → (c .at < length deck → ink s (placedFrom s deck pool false false n c) Q ≡ ink s (laterDocuments s (treesFrom deck pool n c)) Q)
+      → ink s (if leb (length deck) (c .at) then nothing else placedFrom s deck pool false false n c) Q ≡ ink s (laterDocuments s (treesFrom deck pool n c)) Q
+  unfolding ink laterDocuments
+  rest-is n c Q h =
+      by-test (λ (a : Script). ink s a Q ≡ ink s (laterDocuments s (treesFrom deck pool n c)) Q) (leb (length deck) (c .at))
+      (λ e. rw (trees-none n c (leb-true _ _ e)))
+      (λ e. h (leb-false _ _ e))
+
+  later : (n : ℕ) (c : Cursor) (P : Pen) → c .at < length deck → ink s (placedFrom s deck pool false false n c) P ≡ ink s (laterDocuments s (treesFrom deck pool n c)) P
+  unfolding ink laterDocuments placedFrom placedOf treesFrom
+  later zero c P h = refl
+  later (suc n) c P h = rw (lt-leb (length deck) (c .at) h) (rest-is n (nextAt deck pool c) (ink s (placedOf s false false (nodeAt deck pool c)) P) (later n (nextAt deck pool c) _))
+
+  pub all-whole : (n : ℕ) (c : Cursor) (P : Pen) → c .at ≡ 0 → n ≡ length deck → ink s (placedFrom s deck pool false true n c) P ≡ ink s (allDocuments s (treesOf deck pool)) P
+  unfolding ink allDocuments placedFrom placedOf treesOf nothing puts
+  all-whole zero c P z e = let t : treesFrom deck pool (length deck) (record { at = 0 }) ≡ [] = trees-none _ _ (omega (arith, e)) in rw t
+  all-whole (suc n) c P z e =
+      let t : treesFrom deck pool (length deck) (record { at = 0 }) ≡ nodeAt deck pool c ∷ treesFrom deck pool n (nextAt deck pool c) = ap (λ (k : ℕ). treesFrom deck pool k (record { at = 0 })) (sym e) ∙ ap (treesFrom deck pool (suc n)) (start z) ∙ trees-first n c (omega (arith, z, e)) in
+      rw t (rest-is n (nextAt deck pool c) (ink s (placedOf s true false (nodeAt deck pool c)) P) (later n (nextAt deck pool c) _))
     where
       start : c .at ≡ 0 → record { at = 0 } ≡ c
       start e = rw e

@@ -1,10 +1,11 @@
 -- Pieces of a document, by the marks and counts of its root's leading records; and that each is the definition's.
 use mathlib.Core.Path.{_≡_, refl}
-use Prim.Native.Nat.{ℕ, zero, suc}
+use Prim.Native.Nat.{ℕ, zero, suc, _-_}
 use native.Mathlib.Omega.{arith}
 use mathlib.Core.Bool.{Bool, true, false, not, _&&_}
 use mathlib.Core.List.{[], _∷_}
-use lib.Dec.{eqb}
+use lib.ListN.{length}
+use lib.Dec.{eqb, leb}
 use borrow.Author.Tests.{ne-eqb}
 use Rattle.definition.specs.Base.{Bytes, if_then_else_, isNil}
 use Rattle.definition.specs.Settings.{stepOf}
@@ -21,6 +22,7 @@ use Rattle.spot.specs.declared.Spot.{Spot}
 use Rattle.spot.specs.Spot.{keptIn, broughtIn, kindIn, nodeIn}
 use Rattle.atoms.specs.Atoms.{on}
 use Rattle.choices.specs.Choices.{includedIn}
+use Rattle.joints.specs.Entries.{nodeAt, nextAt}
 
 -- mark 64: the byte order mark
 unfoldable pub bomIn : ℕ → Script
@@ -67,6 +69,15 @@ module _ (s : Settings) where
 
     unfoldable pub rootOf : Bool → Spot → Script
     rootOf passed x = if includedIn (x .lead .origin) && not passed then includeLine (x .place) (keptIn deck pool x) else body s (nodeIn deck pool x)
+
+    -- the documents of a file, n at most: the one at a cursor, the first one or another, and others up to the deck's end
+    unfoldable pub placedFrom : Bool → Bool → ℕ → Cursor → Script
+    placedFrom passed first zero c = nothing
+    placedFrom passed first (suc n) c = placedOf first passed (nodeAt deck pool c) >> (if leb (length deck) (nextAt deck pool c .at) then nothing else placedFrom passed false n (nextAt deck pool c))
+
+-- how many are left after one that ends at a cursor
+unfoldable pub leftAfter : Bytes → Cursor → ℕ → ℕ
+leftAfter deck c n = if leb (length deck) (c .at) then 0 else n - 1
 
 -- ---- they are the definition's
 

@@ -10,10 +10,10 @@ use pen::Writer;
 use spot::Spot;
 ghost use mathlib.Core.Path.{_≡_};
 ghost use Prim.Native.Nat.{_<_, _^_};
-ghost use mathlib.Core.Bool.{not, _&&_};
+ghost use mathlib.Core.Bool.{true, not, _&&_};
 ghost use lib.ListN.{length};
-ghost use Rattle.definition.specs.Document.{dashes, dots, oneDocument, allDocuments, laterDocuments};
-ghost use Rattle.node.specs.Total.{treesFrom, treesOf};
+ghost use Rattle.definition.specs.Document.{dashes, dots, oneDocument, allDocuments};
+ghost use Rattle.node.specs.Total.{treesOf};
 ghost use Rattle.pen.specs.Pen.{pen, ink, ended};
 ghost use Rattle.pen.specs.Shown.{fresh};
 ghost use Rattle.parts.specs.Draws.{Draws};
@@ -24,7 +24,7 @@ ghost use Rattle.choices.specs.Choices.{includedIn};
 ghost use Rattle.joints.specs.Entries.{nodeAt, nextAt};
 ghost use Rattle.flow.specs.Ready.{Emits};
 ghost use Rattle.layout.specs.Calm.{Calm};
-ghost use Rattle.document.specs.Pieces.{bomIn, startIn, stopIn, plainIn, opened, separationIn, frontIn, placedOf, blockRoot, lineRoot, rootOf};
+ghost use Rattle.document.specs.Pieces.{bomIn, startIn, stopIn, plainIn, opened, separationIn, frontIn, placedOf, leftAfter, placedFrom, blockRoot, lineRoot, rootOf};
 
 fn put_dashes(w: Writer, out: &mut [u8]) -> Writer
     requires { ⌜ length (now out) < 2 ^ 62 ⌝ }
@@ -232,8 +232,19 @@ fn put_document(
     block::with_foots(e, deck, pool, out, x, 0)
 }
 
-// `emit_roundtrip_with` and `emit_roundtrip_dump`, of the tree at a cursor; `passed`: its include is passed over.
-fn put_one(
+// How many documents are left after one that ends at a cursor: none at the deck's end.
+fn left_after(deck: &[u8], c: Cursor, left: usize) -> usize
+    requires { ⌜ 0 < left ⌝ }
+    ensures { λ r. ⌜ (r ≡ leftAfter (now (deck .entry)) c left) × (r < left) ⌝ }
+{
+    if deck.len() <= c.at {
+        return 0;
+    }
+    left - 1
+}
+
+// The documents of a file, n at most: the one at a cursor, and others up to the deck's end. One loop for all calls, so that a document is a part of it.
+fn put_documents(
     w: Writer,
     deck: &[u8],
     pool: &[u8],
@@ -241,57 +252,23 @@ fn put_one(
     settings: Settings,
     c: Cursor,
     passed: bool,
-) -> Emitted
-    requires { ⌜ Calm settings (now deck) (now pool) (pen w (now out)) (c .at) 0 ⌝ }
-    ensures { λ r. ⌜ Emits settings (oneDocument settings passed (nodeAt (now (deck .entry)) (now (pool .entry)) c)) (pen w (now (out .entry))) (pen (r .w) (now (out .exit))) (c .at) (nextAt (now (deck .entry)) (now (pool .entry)) c) (r .next) (length (now (deck .entry))) ⌝ }
-{
-    let e = put_document(w, deck, pool, out, settings, c, passed, true);
-    let next = e.next;
-    let v1 = put_stop(e.w, out, settings);
-    Emitted { w: v1, next }
-}
-
-// The documents from a cursor to the deck's end, n of them at most.
-fn put_rest(
-    w: Writer,
-    deck: &[u8],
-    pool: &[u8],
-    out: &mut [u8],
-    settings: Settings,
-    c: Cursor,
     n: usize,
 ) -> Writer
     requires { ⌜ Calm settings (now deck) (now pool) (pen w (now out)) (c .at) 0 ⌝ }
-    ensures { λ r. ⌜ pen r (now (out .exit)) ≡ ink settings (laterDocuments settings (treesFrom (now (deck .entry)) (now (pool .entry)) n c)) (pen w (now (out .entry))) ⌝ }
+    ensures { λ r. ⌜ pen r (now (out .exit)) ≡ ink settings (placedFrom settings (now (deck .entry)) (now (pool .entry)) passed true n c) (pen w (now (out .entry))) ⌝ }
 {
     let mut v = w;
     let mut here = c;
     let mut left = n;
+    let mut first = true;
     while left > 0 {
-        if deck.len() <= here.at {
-            return v;
-        }
-        let e = put_document(v, deck, pool, out, settings, here, false, false);
+        let e = put_document(v, deck, pool, out, settings, here, passed, first);
         v = e.w;
         here = e.next;
-        left -= 1;
+        first = false;
+        left = left_after(deck, here, left);
     }
     v
-}
-
-// `emit_roundtrip_all_with`
-fn put_all(w: Writer, deck: &[u8], pool: &[u8], out: &mut [u8], settings: Settings) -> Writer
-    requires { ⌜ Calm settings (now deck) (now pool) (pen w (now out)) 0 0 ⌝ }
-    ensures { λ r. ⌜ pen r (now (out .exit)) ≡ ink settings (allDocuments settings (treesOf (now (deck .entry)) (now (pool .entry)))) (pen w (now (out .entry))) ⌝ }
-{
-    let n = deck.len();
-    if n == 0 {
-        return w;
-    }
-    let c = Cursor { at: 0 };
-    let e = put_document(w, deck, pool, out, settings, c, false, true);
-    let next = e.next;
-    put_rest(e.w, deck, pool, out, settings, next, n - 1)
 }
 
 // A writer that has written nothing. Columns are kept where lines are folded.
@@ -311,7 +288,7 @@ pub fn fresh_writer(settings: Settings) -> Writer
     }
 }
 
-// One document, to the end of its file.
+// `emit_roundtrip_with` and `emit_roundtrip_dump`, of the tree at a cursor, to the end of its file; `passed`: its include is passed over.
 pub fn write_one(
     w: Writer,
     deck: &[u8],
@@ -324,15 +301,18 @@ pub fn write_one(
     requires { ⌜ Calm settings (now deck) (now pool) (pen w (now out)) (c .at) 0 ⌝ }
     ensures { λ r. ⌜ pen r (now (out .exit)) ≡ ended (ink settings (oneDocument settings passed (nodeAt (now (deck .entry)) (now (pool .entry)) c)) (pen w (now (out .entry)))) ⌝ }
 {
-    let e = put_one(w, deck, pool, out, settings, c, passed);
-    e.w.finish(out)
+    let v = put_documents(w, deck, pool, out, settings, c, passed, 1);
+    let v1 = put_stop(v, out, settings);
+    v1.finish(out)
 }
 
-// All documents, to the end of their file.
+// `emit_roundtrip_all_with`, to the end of the file.
 pub fn write_all(w: Writer, deck: &[u8], pool: &[u8], out: &mut [u8], settings: Settings) -> Writer
     requires { ⌜ Calm settings (now deck) (now pool) (pen w (now out)) 0 0 ⌝ }
     ensures { λ r. ⌜ pen r (now (out .exit)) ≡ ended (ink settings (allDocuments settings (treesOf (now (deck .entry)) (now (pool .entry)))) (pen w (now (out .entry)))) ⌝ }
 {
-    let v = put_all(w, deck, pool, out, settings);
+    let c = Cursor { at: 0 };
+    let n = deck.len();
+    let v = put_documents(w, deck, pool, out, settings, c, false, n);
     v.finish(out)
 }

@@ -71,11 +71,12 @@ module _ (deck pool : Bytes) (still : Bool) where
   hushed-rest true (suc n) c d l q h = let z : suc n - 1 ≡ n = omega arith in rw (z, q) (record { told = λ e. rest-of deck pool _ (nextAt deck pool c) (rest-of deck pool _ c (h .told e)) })
   hushed-rest false (suc n) c d l q h = let z : suc n - 1 ≡ n = omega arith in rw (z, q) (record { told = λ e. rest-of deck pool _ c (h .told e) })
 
-  -- ---- of an entry, its key and its last node
+  -- ---- of an entry, its first node and its last one
 
-  pub hushed-key : (pairs : Bool) (c : Cursor) → pairs ≡ true → Hushed deck pool still (treesIn pairs 1) c → Hushed deck pool still 1 c
+  pub hushed-lead : (pairs : Bool) (c : Cursor) → Hushed deck pool still (treesIn pairs 1) c → Hushed deck pool still 1 c
   unfolding treesIn twice
-  hushed-key pairs c p h = record { told = λ e. all-of deck pool 0 c (first-of deck pool 1 c (rw p at (h .told e))) (none-of deck pool _) }
+  hushed-lead true c h = record { told = λ e. all-of deck pool 0 c (first-of deck pool 1 c (h .told e)) (none-of deck pool _) }
+  hushed-lead false c h = h
 
   pub hushed-last : (pairs : Bool) (c d : Cursor) → d ≡ lastOf deck pool pairs c → Hushed deck pool still (treesIn pairs 1) c → Hushed deck pool still 1 d
   unfolding treesIn twice lastOf

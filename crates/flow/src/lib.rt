@@ -278,7 +278,7 @@ fn lined_entry(
     Emitted { w: v1, next }
 }
 
-// What stands before the item or the value of an entry: the key of a pair, and a space.
+// What stands before the item or the value of an entry on a line of its own: the key of a pair, and a space.
 fn entry_key(
     w: Writer,
     deck: &[u8],
@@ -302,7 +302,7 @@ fn entry_key(
     Emitted { w, next: c }
 }
 
-// An entry: an item, or a key and its value.
+// An entry: an item, or a key and its value. The key is not asked of `entry_key`: that would have two callers then, and be a call of its own.
 fn flow_entry(
     w: Writer,
     deck: &[u8],
@@ -317,19 +317,13 @@ fn flow_entry(
     requires { ⌜ (Ready settings (now deck) (now pool) (pen w (now out)) (c .at) i) × Hushed (now deck) (now pool) still (treesIn pairs 1) c ⌝ }
     ensures { λ r. ⌜ Emits settings (entryOf (now (deck .entry)) (now (pool .entry)) settings (on (w .flow)) (on (w .key)) i pairs c) (pen w (now (out .entry))) (pen (r .w) (now (out .exit))) (c .at) (entryEnd (now (deck .entry)) (now (pool .entry)) pairs c) (r .next) (length (now (deck .entry))) ⌝ }
 {
-    let e = entry_key(w, deck, pool, out, settings, pairs, c, i, still);
-    let next = e.next;
-    entry_node(
-        e.w,
-        deck,
-        pool,
-        out,
-        settings,
-        next,
-        i,
-        Manner::Entry,
-        still,
-    )
+    if pairs {
+        let e = entry_node(w, deck, pool, out, settings, c, i, Manner::Key, still);
+        let next = e.next;
+        let v1 = e.w.byte(out, b' ');
+        return entry_node(v1, deck, pool, out, settings, next, i, Manner::Entry, still);
+    }
+    entry_node(w, deck, pool, out, settings, c, i, Manner::Entry, still)
 }
 
 // A node on its line: its properties, its content, what ends it. The one caller of `content`, so that the compiler needs no copy of the node for it.

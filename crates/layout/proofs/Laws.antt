@@ -3,7 +3,7 @@
 use mathlib.Core.Path.{_≡_}
 use Prim.Native.Nat.{ℕ, _<_, _≤_, max}
 use native.Mathlib.Omega.{arith}
-use mathlib.Core.Bool.{false}
+use mathlib.Core.Bool.{Bool, true, false, _||_}
 use lib.ListN.{length}
 use Rattle.definition.specs.Base.{Bytes, spaces}
 use Rattle.definition.specs.Ascii.{LF, SP}
@@ -12,11 +12,13 @@ use Rattle.definition.specs.Pen.{mark, space, nothing, newline, indent, sign}
 use Rattle.definition.specs.Walk.{propsCompact, includeLine, belowIntroducer, content}
 use Rattle.definition.specs.declared.Cursor.{Cursor}
 use Rattle.definition.specs.declared.Settings.{Settings}
+use Rattle.node.specs.declared.Lead.{Lead}
 use Rattle.node.specs.Ends.{Ends}
 use Rattle.node.specs.Total.{keptOf, broughtOf, originOf, remarkOf}
 use Rattle.pen.specs.Pen.{Pen, put1, puts, ink}
 use Rattle.parts.specs.Draws.{Draws, both, of-byte, of-puts}
-use Rattle.parts.specs.Lines.{directed, belowOpen, breaks}
+use Rattle.parts.specs.Lines.{propsBy, directed, belowOpen, breaks}
+use Rattle.parts.specs.Runs.{hasHeld, no-props}
 use Rattle.spot.specs.declared.Spot.{Spot}
 use Rattle.spot.specs.Spot.{keptIn, broughtIn, endIn, nodeIn}
 use Rattle.atoms.specs.Atoms.{on}
@@ -31,6 +33,11 @@ use Rattle.layout.specs.Value.{line-after}
 pub bare-whole : (b : Brought) {P Q R : Pen} → Draws (propsCompact b) P Q → R ≡ put1 Q LF → Draws (bareLine b) P R
 unfolding bareLine newline
 bare-whole b d p = both _ _ d (of-byte space LF p)
+
+-- the line's end alone, where there are no properties
+pub bare-none : (deck pool : Bytes) (l : Lead) (r : Bool) {P Q : Pen} → r ≡ (hasHeld (l .tag) || hasHeld (l .anchor)) → r ≡ false → Q ≡ put1 P LF → Draws (bareLine (broughtOf deck pool l)) P Q
+unfolding propsCompact propsBy broughtOf
+bare-none deck pool l r e f p = bare-whole _ (no-props deck pool true (l .tag) (l .anchor) r e f) p
 
 -- the pad: one space at least
 pub pad-one : {P Q : Pen} (n : ℕ) → n < 2 → Q ≡ put1 P SP → Draws (indent (max n 1)) P Q

@@ -71,7 +71,17 @@ pub fn put_pad(w: Writer, out: &mut [u8], pad: usize) -> Writer
     w.spaces(out, pad)
 }
 
-// A node of which nothing is written after its introducer but its properties; the cursor after it is handed back.
+// A node's properties, to the end of the line.
+pub fn put_dressed(w: Writer, deck: &[u8], pool: &[u8], out: &mut [u8], lead: Lead) -> Writer
+    requires { ⌜ length (now out) < 2 ^ 62 ⌝ }
+    ensures { λ r. ⌜ Draws (bareLine (broughtOf (now (deck .entry)) (now (pool .entry)) lead)) (pen w (now (out .entry))) (pen r (now (out .exit))) ⌝ }
+{
+    let w1 = parts::put_props_compact(w, deck, pool, out, lead);
+    w1.byte(out, b'\n')
+}
+
+// A node of which nothing is written after its introducer but its properties; the cursor after it is handed back. Most have none: that is
+// tested here, so that a line's end is not a call.
 pub fn put_bare(
     w: Writer,
     deck: &[u8],
@@ -83,9 +93,12 @@ pub fn put_bare(
     requires { ⌜ length (now out) < 2 ^ 62 ⌝ }
     ensures { λ r. ⌜ (Draws (bareLine (broughtOf (now (deck .entry)) (now (pool .entry)) lead)) (pen w (now (out .entry))) (pen (r .w) (now (out .exit)))) × (r .next ≡ next) ⌝ }
 {
-    let w1 = parts::put_props_compact(w, deck, pool, out, lead);
-    let w2 = w1.byte(out, b'\n');
-    Emitted { w: w2, next }
+    if parts::is_either(lead.tag, lead.anchor) {
+        let w1 = put_dressed(w, deck, pool, out, lead);
+        return Emitted { w: w1, next };
+    }
+    let w1 = w.byte(out, b'\n');
+    Emitted { w: w1, next }
 }
 
 // A key after `?` that stands on its line.

@@ -1,23 +1,23 @@
 -- Laws of the parts of lines, for the functions that write them.
 -- Assumes nothing.
-use mathlib.Core.Path.{_≡_, sym, ap, _∙_}
+use mathlib.Core.Path.{_≡_, refl, sym, ap, _∙_}
 use Prim.Native.Nat.{ℕ, zero, suc, _+_, _-_, _<_, _^_}
 use native.Mathlib.Omega.{arith}
-use mathlib.Core.Bool.{Bool, true, false, true≢false, _||_}
+use mathlib.Core.Bool.{Bool, true, false, not, _||_}
 use mathlib.Core.List.{[], _∷_, _++_}
-use mathlib.Core.Option.{Option, none, some}
-use borrow.Author.Tests.{eq-eqb, ne-eqb}
+use borrow.Author.Tests.{eq-eqb, ne-eqb, eqb-true, not-true}
 use Rattle.definition.specs.Base.{Bytes, isSome}
-use Rattle.definition.specs.Ascii.{SP}
+use Rattle.definition.specs.Ascii.{LF, SP}
 use Rattle.definition.specs.Records.{textAt, includeAt, trailerAt}
 use Rattle.definition.specs.Deck.{words, inlineOf, sourceOf}
-use Rattle.definition.specs.Pen.{Script, put, comment, directive, nothing}
-use Rattle.definition.specs.Walk.{prop, directiveOf}
+use Rattle.definition.specs.Pen.{Script, put, comment, directive, nothing, space, newline}
+use Rattle.definition.specs.Walk.{prop, propsCompact, directiveOf}
 use Rattle.definition.specs.declared.Cursor.{Cursor}
 use Rattle.definition.specs.declared.Include.{Include}
 use Rattle.definition.specs.declared.Text.{Text}
 use Rattle.definition.specs.declared.Trailer.{Trailer}
 use Rattle.definition.specs.declared.Settings.{Settings}
+use Rattle.laws.specs.Tests.{both-left, both-right}
 use Rattle.node.specs.declared.Held.{Held}
 use Rattle.node.specs.declared.Lead.{Lead}
 use Rattle.node.specs.declared.Origin.{Origin}
@@ -27,28 +27,26 @@ use Rattle.node.specs.Total.{heldOf, originOf, remarkOf, keptOf, broughtOf}
 use Rattle.pen.specs.Pen.{Pen, put1, puts, and-then, noteOf, noted, ink}
 use Rattle.parts.specs.declared.Entries.{Entries}
 use Rattle.parts.specs.declared.Entries.the-variants.{Heads, Over, Under, Foots, Directives}
-use Rattle.parts.specs.Draws.{Draws, both, stays}
-use Rattle.parts.specs.Lines.{propsOf, propsBy, tagFirst}
-use Rattle.parts.specs.Runs.{stride, entry, entries, runOf, repeated, repeated-drawn, Short, hasHeld, held-some}
+use Rattle.parts.specs.Draws.{Draws, both, of-byte}
+use Rattle.parts.specs.Lines.{propsBy, tagFirst, breaks}
+use Rattle.parts.specs.Runs.{stride, entry, entries, runOf, repeated, repeated-drawn, Short, hasHeld, no-props, silentIn}
 
 -- ---- a part that may be absent
-
-neither : (compact : Bool) (x y : Option Bytes) {P : Pen} → (isSome x || isSome y) ≡ false → Draws (propsBy compact x y) P P
-unfolding propsBy propsOf prop isSome
-neither true none none e = both nothing nothing stays stays
-neither false none none e = both nothing nothing stays stays
-neither compact none (some t) e = absurd (true≢false e)
-neither compact (some t) y e = absurd (true≢false e)
-
--- neither a tag nor an anchor
-pub no-props :
-    (deck pool : Bytes) (compact : Bool) (x y : Held) (b : Bool) {P : Pen} → b ≡ (hasHeld x || hasHeld y) → b ≡ false
-    → Draws (propsBy compact (heldOf deck pool x) (heldOf deck pool y)) P P
-no-props deck pool compact x y b e f = neither compact (heldOf deck pool x) (heldOf deck pool y) (rw (held-some deck pool x, held-some deck pool y) (sym e ∙ f))
 
 pub no-remark : (deck pool : Bytes) (place : ℕ) (m : Remark) (P : Pen) → m .at ≡ 0 → Draws (comment place (remarkOf deck pool m)) P P
 unfolding ink noteOf remarkOf
 no-remark deck pool place m P e = record { drawn = λ s. rw (eq-eqb _ _ e) }
+
+-- a line that has neither
+pub silent-break :
+    (deck pool : Bytes) (place : ℕ) (l : Lead) (r : Bool) {P Q : Pen} → r ≡ silentIn l → r ≡ true → Q ≡ put1 P LF
+    → Draws (breaks place (remarkOf deck pool (l .remark)) (broughtOf deck pool l)) P Q
+unfolding breaks newline propsCompact propsBy broughtOf silentIn
+silent-break deck pool place l r e t d =
+    let h = sym e ∙ t in
+    let p = not-true _ (both-left _ _ h) in
+    let m = eqb-true _ _ (both-right (not (hasHeld (l .tag) || hasHeld (l .anchor))) _ h) in
+    both _ _ (no-props deck pool true (l .tag) (l .anchor) _ refl p) (both _ _ (no-remark deck pool place (l .remark) _ m) (of-byte space LF d))
 
 pub some-remark :
     (deck pool : Bytes) (place : ℕ) (m : Remark) (r : Trailer) (t : Bytes) (P Q : Pen) → (m .at ≡ 0 → ⊥) → r ≡ trailerAt deck (m .at) → t ≡ words pool (r .text)

@@ -1,9 +1,9 @@
 -- Records that repeat, written one after another: head comments, all of them or those of one side, foot comments, directives.
 use mathlib.Core.Path.{_≡_, refl, sym, ap, _∙_}
 use Prim.Native.Nat.{ℕ, zero, suc, _+_, _≤_}
-use mathlib.Core.Bool.{Bool, true, false, not, _||_}
+use mathlib.Core.Bool.{Bool, true, false, not, _||_, _&&_, true≢false}
 use mathlib.Core.List.{_∷_}
-use mathlib.Core.Option.{none, some}
+use mathlib.Core.Option.{Option, none, some}
 use lib.Dec.{eqb}
 use Rattle.definition.specs.Base.{Bytes, if_then_else_, isSome}
 use Rattle.definition.specs.Ascii.{'%'}
@@ -11,7 +11,7 @@ use Rattle.definition.specs.Records.{textAt, headingAt}
 use Rattle.definition.specs.Deck.{headOf, words}
 use Rattle.definition.specs.Tree.{Head, Kept}
 use Rattle.definition.specs.Pen.{directive, Script, put, _>>_, nothing, newline}
-use Rattle.definition.specs.Walk.{commentLine, commentLines, headsThat, heads, headsAbove, headsBelow, foots, props, hasProps}
+use Rattle.definition.specs.Walk.{commentLine, commentLines, headsThat, heads, headsAbove, headsBelow, foots, prop, props, hasProps}
 use Rattle.definition.specs.Document.{directives}
 use Rattle.definition.specs.declared.Cursor.{Cursor}
 use Rattle.definition.specs.declared.Settings.{Settings}
@@ -22,8 +22,8 @@ use Rattle.node.specs.Total.{runFrom, commentAt, textOf, keptOf, broughtOf, hel
 use Rattle.pen.specs.Pen.{Pen, puts, ink}
 use Rattle.parts.specs.declared.Entries.{Entries}
 use Rattle.parts.specs.declared.Entries.the-variants.{Heads, Over, Under, Foots, Directives}
-use Rattle.parts.specs.Draws.{Draws}
-use Rattle.parts.specs.Lines.{propsOf}
+use Rattle.parts.specs.Draws.{Draws, both, stays}
+use Rattle.parts.specs.Lines.{propsOf, propsBy}
 
 -- the bytes of a record
 unfoldable pub stride : Entries → ℕ
@@ -89,6 +89,23 @@ held-some deck pool h = go (eqb (h .at) 0)
 pub has-props-is : (deck pool : Bytes) (l : Lead) → hasProps (broughtOf deck pool l) ≡ (hasHeld (l .tag) || hasHeld (l .anchor))
 unfolding hasProps broughtOf
 has-props-is deck pool l = rw (held-some, held-some)
+
+neither : (compact : Bool) (x y : Option Bytes) {P : Pen} → (isSome x || isSome y) ≡ false → Draws (propsBy compact x y) P P
+unfolding propsBy propsOf prop isSome
+neither true none none e = both nothing nothing stays stays
+neither false none none e = both nothing nothing stays stays
+neither compact none (some t) e = absurd (true≢false e)
+neither compact (some t) y e = absurd (true≢false e)
+
+-- neither a tag nor an anchor
+pub no-props :
+    (deck pool : Bytes) (compact : Bool) (x y : Held) (b : Bool) {P : Pen} → b ≡ (hasHeld x || hasHeld y) → b ≡ false
+    → Draws (propsBy compact (heldOf deck pool x) (heldOf deck pool y)) P P
+no-props deck pool compact x y b e f = neither compact (heldOf deck pool x) (heldOf deck pool y) (rw (held-some deck pool x, held-some deck pool y) (sym e ∙ f))
+
+-- neither a tag nor an anchor, and no inline comment
+unfoldable pub silentIn : Lead → Bool
+silentIn l = not (hasHeld (l .tag) || hasHeld (l .anchor)) && eqb (l .remark .at) 0
 
 -- those of a node
 pub of-props :

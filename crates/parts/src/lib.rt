@@ -18,7 +18,7 @@ ghost use Rattle.definition.specs.Walk.{commentLine, heads, aboveDash, belowDas
 ghost use Rattle.node.specs.Total.{heldOf, originOf, remarkOf, keptOf, broughtOf, textOf};
 ghost use Rattle.pen.specs.Pen.{pen};
 ghost use Rattle.parts.specs.Draws.{Draws};
-ghost use Rattle.parts.specs.Runs.{stride, percent, entry, entries, runOf, repeated, Short, hasHeld};
+ghost use Rattle.parts.specs.Runs.{stride, percent, entry, entries, runOf, repeated, Short, hasHeld, silentIn};
 ghost use Rattle.parts.specs.Lines.{propsBy, propsOf, tagFirst, directed, breaks, closes, headsOver, before, belowOpen, colonOpen, dashOpen};
 
 // Records that repeat: head comments, those of them over or under their node's introducer alone, foot comments, directives.
@@ -434,7 +434,17 @@ pub fn put_include_line(
     w2.byte(out, b'\n')
 }
 
-// The properties and the inline comment of what stands below, to the end of the line.
+// Neither properties nor an inline comment.
+fn is_silent(lead: Lead) -> bool
+    ensures { λ r. ⌜ r ≡ silentIn lead ⌝ }
+{
+    if is_either(lead.tag, lead.anchor) {
+        return false;
+    }
+    lead.remark.at == 0
+}
+
+// The properties and the inline comment of what stands below, to the end of the line. Mostly there is neither: that is tested first.
 pub fn put_break(
     w: Writer,
     deck: &[u8],
@@ -446,6 +456,9 @@ pub fn put_break(
     requires { ⌜ (length (now out) < 2 ^ 62) × (place < 2 ^ 62) ⌝ }
     ensures { λ r. ⌜ Draws (breaks place (remarkOf (now (deck .entry)) (now (pool .entry)) (lead .remark)) (broughtOf (now (deck .entry)) (now (pool .entry)) lead)) (pen w (now (out .entry))) (pen r (now (out .exit))) ⌝ }
 {
+    if is_silent(lead) {
+        return w.byte(out, b'\n');
+    }
     let w1 = put_props_compact(w, deck, pool, out, lead);
     let w2 = put_remark(w1, deck, pool, out, place, lead.remark);
     w2.byte(out, b'\n')

@@ -33,7 +33,7 @@ use Rattle.block.proofs.+put_dash+put_dashed+put_key+put_members+put_qu
 use Rattle.block.proofs.+put_dash+put_dashed+put_key+put_members+put_question+put_row+put_rows+put_under+put_value.Proof.PutDashed.{put-dashed-on-dash-line-requires, put-dashed-byte-requires, put-dashed-add-put-members, put-dashed-put-members-requires, put-dashed-add-with-foots, put-dashed-with-foots-requires, put-dashed-same-length, put-dashed-returns, put-dashed-item-column-requires, put-dashed-add-put-under, put-dashed-put-under-requires, put-dashed-same-length-2, put-dashed-returns-2}
 use Rattle.block.proofs.+put_dash+put_dashed+put_key+put_members+put_question+put_row+put_rows+put_under+put_value.Proof.PutKey.{put-key-is-explicit-requires, put-key-byte-requires, put-key-put-question-requires, put-key-with-colon-requires, put-key-same-length, put-key-returns, put-key-line-requires, put-key-same-length-2, put-key-returns-2}
 use Rattle.block.proofs.+put_dash+put_dashed+put_key+put_members+put_question+put_row+put_rows+put_under+put_value.Proof.PutMembers.{put-members-case-of-requires, put-members-count-of-requires, put-members-put-rows-requires, put-members-same-length, put-members-returns}
-use Rattle.block.proofs.+put_dash+put_dashed+put_key+put_members+put_question+put_row+put_rows+put_under+put_value.Proof.PutQuestion.{put-question-step-of-requires, put-question-add-j, put-question-is-block-requires, put-question-put-props-compact-requires, put-question-byte-requires, put-question-put-members-requires, put-question-same-length, put-question-returns, put-question-put-key-line-requires, put-question-same-length-2, put-question-returns-2}
+use Rattle.block.proofs.+put_dash+put_dashed+put_key+put_members+put_question+put_row+put_rows+put_under+put_value.Proof.PutQuestion.{put-question-step-of-requires, put-question-add-j, put-question-is-block-requires, put-question-put-dressed-requires, put-question-put-members-requires, put-question-same-length, put-question-returns, put-question-put-key-line-requires, put-question-same-length-2, put-question-returns-2}
 use Rattle.block.proofs.+put_dash+put_dashed+put_key+put_members+put_question+put_row+put_rows+put_under+put_value.Proof.PutRow.{put-row-spot-at-requires, put-row-put-before-requires, put-row-put-key-requires, put-row-anew-requires, put-row-put-value-requires, put-row-same-length, put-row-returns, put-row-put-dash-requires, put-row-same-length-2, put-row-returns-2}
 use Rattle.block.proofs.+put_dash+put_dashed+put_key+put_members+put_question+put_row+put_rows+put_under+put_value.Proof.PutRows.{put-rows-Inv-loop, put-rows-μ-loop, put-rows-loop-holds, put-rows-put-row-requires, put-rows-anew-requires, put-rows-sub-left, put-rows-loop-less, put-rows-loop-again, put-rows-same-length, put-rows-returns}
 use Rattle.block.proofs.+put_dash+put_dashed+put_key+put_members+put_question+put_row+put_rows+put_under+put_value.Proof.PutUnder.{put-under-put-opening-requires, put-under-put-members-requires, put-under-with-foots-requires, put-under-same-length, put-under-returns}
@@ -119,8 +119,7 @@ pub +put-dash+put-dashed+put-key+put-members+put-question+put-row+put-rows+put-u
     (put-question-step-of-requires t)
     (put-question-add-j t)
     (put-question-is-block-requires t)
-    (put-question-put-props-compact-requires t)
-    (put-question-byte-requires t)
+    (put-question-put-dressed-requires t)
     (put-question-put-members-requires t)
     (put-question-same-length t)
     (put-question-returns t)

@@ -47,10 +47,10 @@ use Rattle.parts.proofs.is_marked.Reads as is-marked-reads
 use Rattle.layout.proofs.put_bare.Reads as put-bare-reads
 use Rattle.layout.proofs.put_below.Reads as put-below-reads
 use Rattle.layout.proofs.put_before.Reads as put-before-reads
+use Rattle.layout.proofs.put_dressed.Reads as put-dressed-reads
 use Rattle.layout.proofs.put_include.Reads as put-include-reads
 use Rattle.layout.proofs.put_key_line.Reads as put-key-line-reads
 use Rattle.layout.proofs.put_pad.Reads as put-pad-reads
-use Rattle.parts.proofs.put_props_compact.Reads as put-props-compact-reads
 use Rattle.pen.proofs.Writer.anew.Reads as anew-reads
 use Rattle.pen.proofs.Writer.byte.Reads as byte-reads
 use Rattle.spot.proofs.case_of.Reads as case-of-reads
@@ -223,10 +223,8 @@ put-question-claims t = (
   step-of-reads.Learnt,
   is-block-reads.Asked,
   is-block-reads.Learnt,
-  put-props-compact-reads.Asked,
-  put-props-compact-reads.Learnt,
-  byte-reads.Asked,
-  byte-reads.Learnt,
+  put-dressed-reads.Asked,
+  put-dressed-reads.Learnt,
   put-members-below t,
   put-members.Post,
   put-key-line-reads.Asked,

@@ -1,7 +1,5 @@
 use native.Mathlib.Omega.{arith}
 use mathlib.Core.Path.{refl}
-use Rattle.definition.specs.Pen.{space}
-use Rattle.parts.specs.Draws.{of-byte}
 use Rattle.layout.specs.Calm.{calm-drawn, calm-inside, in-line}
 use Rattle.block.proofs.Laws.{deeper, key-below-block, key-below-line}
 use borrow.Author.Needs.{needs}
@@ -23,25 +21,17 @@ put-question-add-j t c = let p = (c .before .before .before .before .pre) .1 .0 
 pub put-question-is-block-requires : (t : ℕ) → put-question-lts.Need-is-block-requires (put-question-claims t) (put-question-at t) put-question.Post
 put-question-is-block-requires t c κs = search needs
 
--- src/lib.rt:194:13
-pub put-question-put-props-compact-requires : (t : ℕ) → put-question-lts.Need-put-props-compact-requires (put-question-claims t) (put-question-at t) put-question.Post
-put-question-put-props-compact-requires t c κs = search needs
+pub put-question-put-dressed-requires : (t : ℕ) → put-question-lts.Need-put-dressed-requires (put-question-claims t) (put-question-at t) put-question.Post
+put-question-put-dressed-requires t c κs = search needs
 
--- src/lib.rt:195:13
-pub put-question-byte-requires : (t : ℕ) → put-question-lts.Need-byte-requires (put-question-claims t) (put-question-at t) put-question.Post
-put-question-byte-requires t c κs = search needs
-
--- src/lib.rt:196:9
 pub put-question-put-members-requires : (t : ℕ) → put-question-lts.Need-put-members-requires (put-question-claims t) (put-question-at t) put-question.Post
-put-question-put-members-requires t c κs = let q = (c .before .before .before .before .before .before .before .before .before .before .before .before .before .before .before .pre) .0 in let p = (c .before .before .before .before .before .before .before .before .before .before .before .before .before .before .before .pre) .1 .0 in let g = (c .before .before .before .before .before .before .before .before .before .before .before .before .before .before .before .pre) .1 .1 in let d = deeper _ (c .before .before .before .before .before .before .before .before .before .before .before .before .before .before .before .args .x) _ g (c .before .before .before .before .before .before .before .before .before .before .is-block .ensures) (c .before .before .before .before .before .before .before .before .before .if1 .taken) in let e = c .before .before .before .before .before .before .before .before .before .before .before .step-of .ensures .1 (p .ready .step) in (omega (arith, q, d, g .within), (calm-inside (calm-drawn (calm-drawn p (c .before .before .before .before .before .before .before .put-props-compact .ensures)) (of-byte space _ (c .before .before .before .byte .ensures))) _ _ d (g .within) (omega (arith, e)), g, (c .before .before .before .before .before .before .before .before .before .before .before .before .before .before .before .pre) .1 .2))
+put-question-put-members-requires t c κs = let q = (c .before .before .before .before .before .before .before .before .before .before .before .pre) .0 in let p = (c .before .before .before .before .before .before .before .before .before .before .before .pre) .1 .0 in let g = (c .before .before .before .before .before .before .before .before .before .before .before .pre) .1 .1 in let d = deeper _ (c .before .before .before .before .before .before .before .before .before .before .before .args .x) _ g (c .before .before .before .before .before .before .is-block .ensures) (c .before .before .before .before .before .if1 .taken) in let e = c .before .before .before .before .before .before .before .step-of .ensures .1 (p .ready .step) in (omega (arith, q, d, g .within), (calm-inside (calm-drawn p (c .before .before .before .put-dressed .ensures)) _ _ d (g .within) (omega (arith, e)), g, (c .before .before .before .before .before .before .before .before .before .before .before .pre) .1 .2))
 
--- src/lib.rt:196:9
 pub put-question-same-length : (t : ℕ) → put-question-lts.Need-same-length (put-question-claims t) (put-question-at t) put-question.Post
 put-question-same-length t c = search needs
 
--- src/lib.rt:196:9
 pub put-question-returns : (t : ℕ) → put-question-lts.Need-returns (put-question-claims t) (put-question-at t) put-question.Post
-put-question-returns t c = key-below-block _ _ _ _ _ _ _ _ _ (c .before .before .before .before .before .before .before .before .before .before .before .before .before .before .step-of .ensures .0) refl (c .before .before .before .before .before .before .before .before .before .before .before .before .before .is-block .ensures) (c .before .before .before .before .before .before .before .before .before .before .before .before .if1 .taken) (c .before .before .before .before .before .before .before .before .before .before .put-props-compact .ensures) (c .before .before .before .before .before .before .byte .ensures) (c .before .before .put-members .ensures)
+put-question-returns t c = key-below-block _ _ _ _ _ _ _ _ _ (c .before .before .before .before .before .before .before .before .before .before .step-of .ensures .0) refl (c .before .before .before .before .before .before .before .before .before .is-block .ensures) (c .before .before .before .before .before .before .before .before .if1 .taken) (c .before .before .before .before .before .before .put-dressed .ensures) (c .before .before .put-members .ensures)
 
 -- src/lib.rt:198:5
 pub put-question-put-key-line-requires : (t : ℕ) → put-question-lts.Need-put-key-line-requires (put-question-claims t) (put-question-at t) put-question.Post

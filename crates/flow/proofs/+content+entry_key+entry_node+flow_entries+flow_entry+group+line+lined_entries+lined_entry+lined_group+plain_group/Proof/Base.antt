@@ -215,10 +215,10 @@ flow-entries-claims t = (
 
 abbrev pub flow-entry-claims : ℕ → flow-entry-lts.Claims
 flow-entry-claims t = (
-  entry-key-below t,
-  entry-key.Post,
   entry-node-below t,
   entry-node.Post,
+  byte-reads.Asked,
+  byte-reads.Learnt,
 )
 
 abbrev pub group-claims : ℕ → group-lts.Claims

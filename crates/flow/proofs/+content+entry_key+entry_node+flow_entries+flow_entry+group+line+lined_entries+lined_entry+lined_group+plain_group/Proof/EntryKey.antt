@@ -1,6 +1,6 @@
 use native.Mathlib.Omega.{arith}
 use Rattle.flow.proofs.Laws.{key-emits, no-key}
-use Rattle.flow.proofs.Hushes.{hushed-key}
+use Rattle.flow.proofs.Hushes.{hushed-lead}
 use borrow.Author.Needs.{needs}
 use Prim.Native.Nat.{ℕ}
 use Rattle.flow.proofs.entry_key.Reads as entry-key
@@ -9,7 +9,7 @@ use Rattle.flow.proofs.+content+entry_key+entry_node+flow_entries+flow_
 
 -- src/lib.rt:269:13
 pub entry-key-entry-node-requires : (t : ℕ) → entry-key-lts.Need-entry-node-requires (entry-key-claims t) (entry-key-at t) entry-key.Post
-entry-key-entry-node-requires t c κs = let q = c .before .before .before .before .before .pre .0 in (omega (arith, q), (c .before .before .before .before .before .pre .1 .0, hushed-key _ _ _ _ _ (c .before .if1 .taken) (c .before .before .before .before .before .pre .1 .1)))
+entry-key-entry-node-requires t c κs = let q = c .before .before .before .before .before .pre .0 in (omega (arith, q), (c .before .before .before .before .before .pre .1 .0, hushed-lead _ _ _ _ _ (c .before .before .before .before .before .pre .1 .1)))
 
 -- src/lib.rt:272:13
 pub entry-key-byte-requires : (t : ℕ) → entry-key-lts.Need-byte-requires (entry-key-claims t) (entry-key-at t) entry-key.Post
