@@ -2,7 +2,6 @@ use Rattle.answers.specs.Answer.{refusal}
 use Rattle.answers.proofs.refuse.Statement.{statement}
 use Rattle.answers.proofs.refuse.Tie as tie
 
--- src/lib.rt:95:1
 returns : tie.Need-returns
 unfolding refusal
 returns c = cc

@@ -4,21 +4,17 @@ use borrow.Author.Needs.{needs}
 use Rattle.atoms.proofs.is_on_header.Statement.{statement}
 use Rattle.atoms.proofs.is_on_header.Tie as tie
 
--- src/lib.rt:100:9
 returns : tie.Need-returns
 unfolding on
 returns c = rw (eq-eqb _ _ (c .if1 .taken))
 
--- src/lib.rt:102:8
 is-block-style-requires : tie.Need-is-block-style-requires
 is-block-style-requires c κs = search needs
 
--- src/lib.rt:103:9
 returns-2 : tie.Need-returns-2
 unfolding on
 returns-2 c = rw (ne-eqb _ _ (c .before .before .if1 .left), ← c .before .is-block-style .ensures, c .if2 .taken)
 
--- src/lib.rt:96:1
 returns-3 : tie.Need-returns-3
 unfolding on
 returns-3 c = rw (ne-eqb _ _ (c .before .before .if1 .left), ← c .before .is-block-style .ensures, c .if2 .left)

@@ -2,19 +2,15 @@ use borrow.Author.Needs.{needs}
 use Rattle.atoms.proofs.is_tilde_null.Statement.{statement}
 use Rattle.atoms.proofs.is_tilde_null.Tie as tie
 
--- src/lib.rt:46:8
 is-marked-requires : tie.Need-is-marked-requires
 is-marked-requires c κs = search needs
 
--- src/lib.rt:47:9
 is-tilde-requires : tie.Need-is-tilde-requires
 is-tilde-requires c κs = search needs
 
--- src/lib.rt:47:9
 returns : tie.Need-returns
 returns c = rw (← c .before .before .is-marked .ensures, c .before .if1 .taken) (c .is-tilde .ensures)
 
--- src/lib.rt:43:1
 returns-2 : tie.Need-returns-2
 returns-2 c = rw (← c .before .is-marked .ensures, c .if1 .left)
 

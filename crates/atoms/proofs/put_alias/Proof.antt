@@ -3,23 +3,18 @@ use borrow.Author.Needs.{needs}
 use Rattle.atoms.proofs.put_alias.Statement.{statement}
 use Rattle.atoms.proofs.put_alias.Tie as tie
 
--- src/lib.rt:66:9
 byte-requires : tie.Need-byte-requires
 byte-requires c κs = search needs
 
--- src/lib.rt:67:18
 words-of-requires : tie.Need-words-of-requires
 words-of-requires c κs = search needs
 
--- src/lib.rt:67:5
 text-requires : tie.Need-text-requires
 text-requires c κs = search needs
 
--- src/lib.rt:62:1
 same-length : tie.Need-same-length
 same-length c = search needs
 
--- src/lib.rt:62:1
 returns : tie.Need-returns
 returns c = starred _ _ _ _ (c .before .before .before .words-of .ensures) (c .before .before .before .before .before .before .before .byte .ensures) (c .before .before .text .ensures)
 

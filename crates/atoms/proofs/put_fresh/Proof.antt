@@ -4,40 +4,31 @@ use borrow.Author.Needs.{needs}
 use Rattle.atoms.proofs.put_fresh.Statement.{statement}
 use Rattle.atoms.proofs.put_fresh.Tie as tie
 
--- src/lib.rt:146:9
 words-of-requires : tie.Need-words-of-requires
 words-of-requires c κs = search needs
 
--- src/lib.rt:147:8
 is-on-header-requires : tie.Need-is-on-header-requires
 is-on-header-requires c κs = search needs
 
--- src/lib.rt:148:44
 marker-of-requires : tie.Need-marker-of-requires
 marker-of-requires c κs = search needs
 
--- src/lib.rt:148:9
 put-commented-requires : tie.Need-put-commented-requires
 put-commented-requires c κs = search needs
 
--- src/lib.rt:148:9
 same-length : tie.Need-same-length
 same-length c = search needs
 
--- src/lib.rt:148:9
 returns : tie.Need-returns
 unfolding on
 returns c = with-comment _ _ _ _ _ _ _ _ _ _ (c .before .before .before .before .before .before .is-on-header .ensures) (c .before .before .before .before .before .if1 .taken) (c .before .before .before .before .before .before .before .words-of .ensures) (c .before .before .before .marker-of .ensures) (c .before .before .put-commented .ensures)
 
--- src/lib.rt:150:5
 put-scalar-requires : tie.Need-put-scalar-requires
 put-scalar-requires c κs = (words-short _ _ (c .before .before .before .words-of .ensures) (c .before .before .before .before .before .before .before .before .before .pre .1), c .before .before .before .before .before .before .before .before .before .pre .3, c .before .before .before .before .before .before .before .before .before .pre .0)
 
--- src/lib.rt:128:1
 same-length-2 : tie.Need-same-length-2
 same-length-2 c = search needs
 
--- src/lib.rt:128:1
 returns-2 : tie.Need-returns-2
 unfolding on
 returns-2 c = without-comment _ _ _ _ _ _ _ _ _ _ _ (c .before .before .before .before .before .is-on-header .ensures) (c .before .before .before .before .if1 .left) (c .before .before .before .before .before .before .words-of .ensures) (c .before .before .put-scalar .ensures)

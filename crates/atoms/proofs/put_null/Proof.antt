@@ -4,36 +4,28 @@ use borrow.Author.Needs.{needs}
 use Rattle.atoms.proofs.put_null.Statement.{statement}
 use Rattle.atoms.proofs.put_null.Tie as tie
 
--- src/lib.rt:56:8
 is-tilde-null-requires : tie.Need-is-tilde-null-requires
 is-tilde-null-requires c κs = search needs
 
--- src/lib.rt:57:9
 byte-requires : tie.Need-byte-requires
 byte-requires c κs = search needs
 
--- src/lib.rt:57:9
 same-length : tie.Need-same-length
 same-length c = search needs
 
--- src/lib.rt:57:9
 returns : tie.Need-returns
 unfolding nullIn puts
 returns c = rw (← c .before .before .before .before .before .is-tilde-null .ensures, c .before .before .before .before .if1 .taken) (c .before .before .byte .ensures)
 
--- src/lib.rt:59:17
 slice-aggregate-text : tie.Need-slice-aggregate-text
 slice-aggregate-text c = search needs
 
--- src/lib.rt:59:5
 text-requires : tie.Need-text-requires
 text-requires c κs = search needs
 
--- src/lib.rt:52:1
 same-length-2 : tie.Need-same-length-2
 same-length-2 c = search needs
 
--- src/lib.rt:52:1
 returns-2 : tie.Need-returns-2
 unfolding nullIn puts
 returns-2 c = rw (← c .before .before .before .before .before .before .is-tilde-null .ensures, c .before .before .before .before .before .if1 .left) (c .before .before .text .ensures)

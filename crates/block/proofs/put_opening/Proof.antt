@@ -3,28 +3,22 @@ use borrow.Author.Needs.{needs}
 use Rattle.block.proofs.put_opening.Statement.{statement}
 use Rattle.block.proofs.put_opening.Tie as tie
 
--- src/lib.rt:40:9
 put-dash-block-requires : tie.Need-put-dash-block-requires
 put-dash-block-requires c κs = search needs
 
--- src/lib.rt:40:9
 same-length : tie.Need-same-length
 same-length c = search needs
 
--- src/lib.rt:40:9
 returns : tie.Need-returns
 unfolding openingOf
 returns c = rw (c .before .before .before .before .if1 .taken) (c .before .before .put-dash-block .ensures)
 
--- src/lib.rt:42:5
 put-colon-block-requires : tie.Need-put-colon-block-requires
 put-colon-block-requires c κs = search needs
 
--- src/lib.rt:26:1
 same-length-2 : tie.Need-same-length-2
 same-length-2 c = search needs
 
--- src/lib.rt:26:1
 returns-2 : tie.Need-returns-2
 unfolding openingOf
 returns-2 c = rw (c .before .before .before .before .if1 .left) (c .before .before .put-colon-block .ensures)

@@ -5,19 +5,15 @@ use borrow.Author.Needs.{needs}
 use Rattle.block.proofs.with_colon.Statement.{statement}
 use Rattle.block.proofs.with_colon.Tie as tie
 
--- src/lib.rt:64:9
 spaces-requires : tie.Need-spaces-requires
 spaces-requires c κs = search needs
 
--- src/lib.rt:65:9
 byte-requires : tie.Need-byte-requires
 byte-requires c κs = search needs
 
--- src/lib.rt:58:1
 same-length : tie.Need-same-length
 same-length c = search needs
 
--- src/lib.rt:58:1
 returns : tie.Need-returns
 unfolding indent sign
 returns c = record { drawn = both _ _ (of-puts space _ (c .before .before .before .before .before .before .spaces .ensures)) (of-byte mark _ (c .before .before .byte .ensures)); next = refl }

@@ -14,35 +14,27 @@ Inv-loop t from i₀ i = Run (λ a. (a ≡ 10 → ⊥)) t from i × (from < i)
 abbrev μ-loop : tie.MeasureT-loop
 μ-loop t from i₀ i = length t - i
 
--- src/lib.rt:18:17
 add-i : tie.Need-add-i Inv-loop μ-loop
 add-i c = search needs
 
--- src/lib.rt:19:5
 loop-holds : tie.Need-loop-holds Inv-loop μ-loop
 loop-holds c = (run-on _ _ _ _ (run-start _ (c .args .t .now) _ (let h = c .pre .0 in omega arith)) (c .pre .0) (c .pre .1), omega arith)
 
--- src/lib.rt:20:12
 shared-slice-read-if1 : tie.Need-shared-slice-read-if1 Inv-loop μ-loop
 shared-slice-read-if1 c = search needs
 
--- src/lib.rt:21:13
 returns : tie.Need-returns Inv-loop μ-loop
 returns c = c .before .before .before .loop .inv
 
--- src/lib.rt:23:9
 add-i-2 : tie.Need-add-i-2 Inv-loop μ-loop
 add-i-2 c = search needs
 
--- src/lib.rt:19:5
 loop-less : tie.Need-loop-less Inv-loop μ-loop
 loop-less c = search needs
 
--- src/lib.rt:19:5
 loop-again : tie.Need-loop-again Inv-loop μ-loop
 loop-again c = (run-on _ _ _ _ (c .before .before .before .loop .inv .0) (c .before .before .loop-test .taken) (c .if1 .left), (let h = c .before .before .before .loop .inv .1 in omega arith))
 
--- src/lib.rt:14:1
 returns-2 : tie.Need-returns-2 Inv-loop μ-loop
 returns-2 c = c .before .loop .inv
 

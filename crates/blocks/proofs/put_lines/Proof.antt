@@ -16,31 +16,24 @@ Inv-loop out₀ t indent fresh g₀ out g = (puts (indented indent (g .fresh) (d
 abbrev μ-loop : tie.MeasureT-loop
 μ-loop out₀ t indent fresh g₀ out g = length t - g .at
 
--- src/lib.rt:76:5
 loop-holds : tie.Need-loop-holds Inv-loop μ-loop
 loop-holds c = search needs
 
--- src/lib.rt:78:9
 line-turn-requires : tie.Need-line-turn-requires Inv-loop μ-loop
 line-turn-requires c κs = search needs
 
--- src/lib.rt:76:5
 loop-less : tie.Need-loop-less Inv-loop μ-loop
 loop-less c = let h = c .before .before .line-turn .ensures .1 in let t = c .before .before .before .before .if1 .taken in omega arith
 
--- src/lib.rt:76:5
 loop-again : tie.Need-loop-again Inv-loop μ-loop
 loop-again c = (c .before .before .line-turn .ensures .0 ∙ c .before .before .before .before .before .before .loop .inv .0, c .before .before .line-turn .kept .1 .0 ∙ c .before .before .before .before .before .before .loop .inv .1)
 
--- src/lib.rt:81:5
 byte-requires : tie.Need-byte-requires Inv-loop μ-loop
 byte-requires c κs = search needs
 
--- src/lib.rt:66:1
 same-length : tie.Need-same-length Inv-loop μ-loop
 same-length c = search needs
 
--- src/lib.rt:66:1
 returns : tie.Need-returns Inv-loop μ-loop
 unfolding indented puts
 returns c = c .before .before .byte .ensures ∙ rw (drop-of-length-le _ (c .before .before .before .before .before .if1 .left)) at (c .before .before .before .before .before .before .before .loop .inv .0)

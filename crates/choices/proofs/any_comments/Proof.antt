@@ -3,11 +3,9 @@ use borrow.Author.Needs.{needs}
 use Rattle.choices.proofs.any_comments.Statement.{statement}
 use Rattle.choices.proofs.any_comments.Tie as tie
 
--- src/lib.rt:431:5
 some-comments-requires : tie.Need-some-comments-requires
 some-comments-requires c κs = search needs
 
--- src/lib.rt:427:1
 returns : tie.Need-returns
 returns c = of-items _ _ _ _ (c .some-comments .ensures)
 

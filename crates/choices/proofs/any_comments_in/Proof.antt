@@ -3,15 +3,12 @@ use borrow.Author.Needs.{needs}
 use Rattle.choices.proofs.any_comments_in.Statement.{statement}
 use Rattle.choices.proofs.any_comments_in.Tie as tie
 
--- src/lib.rt:439:28
 mul-some-comments : tie.Need-mul-some-comments
 mul-some-comments c = search needs
 
--- src/lib.rt:439:5
 some-comments-requires : tie.Need-some-comments-requires
 some-comments-requires c κs = search needs
 
--- src/lib.rt:435:1
 returns : tie.Need-returns
 returns c = of-pairs _ _ _ _ (c .some-comments .ensures)
 

@@ -3,20 +3,16 @@ use borrow.Author.Needs.{needs}
 use Rattle.choices.proofs.bare.Statement.{statement}
 use Rattle.choices.proofs.bare.Tie as tie
 
--- src/lib.rt:223:8
 is-empty-scalar-requires : tie.Need-is-empty-scalar-requires
 is-empty-scalar-requires c κs = search needs
 
--- src/lib.rt:224:9
 is-silent-requires : tie.Need-is-silent-requires
 is-silent-requires c κs = search needs
 
--- src/lib.rt:224:9
 returns : tie.Need-returns
 unfolding bareIn
 returns c = rw (← c .before .before .is-empty-scalar .ensures, c .before .if1 .taken) (c .is-silent .ensures)
 
--- src/lib.rt:220:1
 returns-2 : tie.Need-returns-2
 unfolding bareIn
 returns-2 c = rw (← c .before .is-empty-scalar .ensures, c .if1 .left)

@@ -3,29 +3,23 @@ use borrow.Author.Needs.{needs}
 use Rattle.choices.proofs.bare_root.Statement.{statement}
 use Rattle.choices.proofs.bare_root.Tie as tie
 
--- src/lib.rt:385:8
 is-null-requires : tie.Need-is-null-requires
 is-null-requires c κs = search needs
 
--- src/lib.rt:386:12
 is-tagged-requires : tie.Need-is-tagged-requires
 is-tagged-requires c κs = search needs
 
--- src/lib.rt:387:13
 is-tag-alone-requires : tie.Need-is-tag-alone-requires
 is-tag-alone-requires c κs = search needs
 
--- src/lib.rt:387:13
 returns : tie.Need-returns
 unfolding bareRootIn
 returns c = rw (← c .before .before .before .before .is-null .ensures, c .before .before .before .if1 .taken, ← c .before .before .is-tagged .ensures, c .before .if2 .taken) (c .is-tag-alone .ensures)
 
--- src/lib.rt:375:1
 returns-2 : tie.Need-returns-2
 unfolding bareRootIn
 returns-2 c = rw (← c .before .before .before .is-null .ensures, c .before .before .if1 .taken, ← c .before .is-tagged .ensures, c .if2 .left)
 
--- src/lib.rt:375:1
 returns-3 : tie.Need-returns-3
 unfolding bareRootIn
 returns-3 c = rw (← c .before .is-null .ensures, c .if1 .left)

@@ -3,20 +3,16 @@ use borrow.Author.Needs.{needs}
 use Rattle.choices.proofs.is_block_form.Statement.{statement}
 use Rattle.choices.proofs.is_block_form.Tie as tie
 
--- src/lib.rt:36:24
 enum-told : tie.Need-enum-told
 enum-told c = search needs
 
--- src/lib.rt:37:23
 enum-told-2 : tie.Need-enum-told-2
 enum-told-2 c = search needs
 
--- src/lib.rt:32:1
 returns : tie.Need-returns
 unfolding isBlockForm
 returns c = rw (c .enum-told .given .1)
 
--- src/lib.rt:32:1
 returns-2 : tie.Need-returns-2
 unfolding isBlockForm
 returns-2 c = rw (c .enum-told2 .given .1)

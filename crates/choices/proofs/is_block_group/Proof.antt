@@ -4,16 +4,13 @@ use borrow.Author.Needs.{needs}
 use Rattle.choices.proofs.is_block_group.Statement.{statement}
 use Rattle.choices.proofs.is_block_group.Tie as tie
 
--- src/lib.rt:46:8
 is-block-form-requires : tie.Need-is-block-form-requires
 is-block-form-requires c κs = search needs
 
--- src/lib.rt:47:9
 returns : tie.Need-returns
 unfolding blockGroup on
 returns c = rw (← c .before .before .is-block-form .ensures, c .before .if1 .taken)
 
--- src/lib.rt:42:1
 returns-2 : tie.Need-returns-2
 unfolding blockGroup on
 returns-2 c = rw (← c .before .is-block-form .ensures, c .if1 .left)

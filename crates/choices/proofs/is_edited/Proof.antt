@@ -3,20 +3,16 @@ use borrow.Author.Needs.{needs}
 use Rattle.choices.proofs.is_edited.Statement.{statement}
 use Rattle.choices.proofs.is_edited.Tie as tie
 
--- src/lib.rt:201:8
 is-marked-requires : tie.Need-is-marked-requires
 is-marked-requires c κs = search needs
 
--- src/lib.rt:202:9
 is-null-requires : tie.Need-is-null-requires
 is-null-requires c κs = search needs
 
--- src/lib.rt:202:9
 returns : tie.Need-returns
 unfolding editedIn
 returns c = rw (← c .before .before .is-marked .ensures, c .before .if1 .taken) (c .is-null .ensures)
 
--- src/lib.rt:198:1
 returns-2 : tie.Need-returns-2
 unfolding editedIn
 returns-2 c = rw (← c .before .is-marked .ensures, c .if1 .left)

@@ -3,19 +3,15 @@ use borrow.Author.Needs.{needs}
 use Rattle.choices.proofs.is_empty_plain.Statement.{statement}
 use Rattle.choices.proofs.is_empty_plain.Tie as tie
 
--- src/lib.rt:104:8
 is-plain-requires : tie.Need-is-plain-requires
 is-plain-requires c κs = search needs
 
--- src/lib.rt:105:13
 words-of-requires : tie.Need-words-of-requires
 words-of-requires c κs = search needs
 
--- src/lib.rt:106:9
 returns : tie.Need-returns
 returns c = rw (← c .before .before .is-plain .ensures, c .before .if1 .taken, ← c .words-of .ensures) (nil-length _)
 
--- src/lib.rt:100:1
 returns-2 : tie.Need-returns-2
 returns-2 c = rw (← c .before .is-plain .ensures, c .if1 .left)
 

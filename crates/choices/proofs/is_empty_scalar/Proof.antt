@@ -3,51 +3,40 @@ use borrow.Author.Needs.{needs}
 use Rattle.choices.proofs.is_empty_scalar.Statement.{statement}
 use Rattle.choices.proofs.is_empty_scalar.Tie as tie
 
--- src/lib.rt:116:23
 enum-told : tie.Need-enum-told
 enum-told c = search needs
 
--- src/lib.rt:117:22
 enum-known-body : tie.Need-enum-known-body
 enum-known-body c = search needs
 
--- src/lib.rt:117:31
 is-empty-plain-requires : tie.Need-is-empty-plain-requires
 is-empty-plain-requires c κs = search needs
 
--- src/lib.rt:118:27
 enum-told-2 : tie.Need-enum-told-2
 enum-told-2 c = search needs
 
--- src/lib.rt:119:30
 enum-told-3 : tie.Need-enum-told-3
 enum-told-3 c = search needs
 
--- src/lib.rt:120:29
 enum-told-4 : tie.Need-enum-told-4
 enum-told-4 c = search needs
 
--- src/lib.rt:112:1
 returns : tie.Need-returns
 unfolding emptyIn
 returns c = rw (c .enum-told .given .1)
 
--- src/lib.rt:112:1
 returns-2 : tie.Need-returns-2
 unfolding emptyIn
 returns-2 c = rw (c .before .before .body .given .1) (c .is-empty-plain .ensures)
 
--- src/lib.rt:112:1
 returns-3 : tie.Need-returns-3
 unfolding emptyIn
 returns-3 c = rw (c .enum-told2 .given .1)
 
--- src/lib.rt:112:1
 returns-4 : tie.Need-returns-4
 unfolding emptyIn
 returns-4 c = rw (c .enum-told3 .given .1)
 
--- src/lib.rt:112:1
 returns-5 : tie.Need-returns-5
 unfolding emptyIn
 returns-5 c = rw (c .enum-told4 .given .1)

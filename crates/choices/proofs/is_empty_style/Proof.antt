@@ -3,29 +3,23 @@ use borrow.Author.Needs.{needs}
 use Rattle.choices.proofs.is_empty_style.Statement.{statement}
 use Rattle.choices.proofs.is_empty_style.Tie as tie
 
--- src/lib.rt:191:28
 enum-told : tie.Need-enum-told
 enum-told c = search needs
 
--- src/lib.rt:192:29
 enum-told-2 : tie.Need-enum-told-2
 enum-told-2 c = search needs
 
--- src/lib.rt:193:29
 enum-told-3 : tie.Need-enum-told-3
 enum-told-3 c = search needs
 
--- src/lib.rt:186:1
 returns : tie.Need-returns
 unfolding isEmptyStyle
 returns c = rw (c .enum-told .given .1)
 
--- src/lib.rt:186:1
 returns-2 : tie.Need-returns-2
 unfolding isEmptyStyle
 returns-2 c = rw (c .enum-told2 .given .1)
 
--- src/lib.rt:186:1
 returns-3 : tie.Need-returns-3
 unfolding isEmptyStyle
 returns-3 c = rw (c .enum-told3 .given .1)

@@ -3,34 +3,27 @@ use borrow.Author.Needs.{needs}
 use Rattle.choices.proofs.is_explicit.Statement.{statement}
 use Rattle.choices.proofs.is_explicit.Tie as tie
 
--- src/lib.rt:174:8
 needs-explicit-requires : tie.Need-needs-explicit-requires
 needs-explicit-requires c κs = search needs
 
--- src/lib.rt:175:9
 returns : tie.Need-returns
 unfolding explicitIn
 returns c = rw (← c .before .needs-explicit .ensures, c .if1 .taken)
 
--- src/lib.rt:178:9
 returns-2 : tie.Need-returns-2
 unfolding explicitIn
 returns-2 c = rw (← c .before .before .needs-explicit .ensures, c .before .if1 .left, c .if2 .taken)
 
--- src/lib.rt:180:8
 is-marked-requires : tie.Need-is-marked-requires
 is-marked-requires c κs = search needs
 
--- src/lib.rt:181:9
 is-either-requires : tie.Need-is-either-requires
 is-either-requires c κs = search needs
 
--- src/lib.rt:181:9
 returns-3 : tie.Need-returns-3
 unfolding explicitIn
 returns-3 c = rw (← c .before .before .before .before .before .needs-explicit .ensures, c .before .before .before .before .if1 .left, c .before .before .before .if2 .left, ← c .before .before .is-marked .ensures, c .before .if3 .taken) (c .is-either .ensures)
 
--- src/lib.rt:170:1
 returns-4 : tie.Need-returns-4
 unfolding explicitIn
 returns-4 c = rw (← c .before .before .before .before .needs-explicit .ensures, c .before .before .before .if1 .left, c .before .before .if2 .left, ← c .before .is-marked .ensures, c .if3 .left)

@@ -2,19 +2,15 @@ use borrow.Author.Needs.{needs}
 use Rattle.choices.proofs.is_explicit_scalar.Statement.{statement}
 use Rattle.choices.proofs.is_explicit_scalar.Tie as tie
 
--- src/lib.rt:149:8
 is-marked-requires : tie.Need-is-marked-requires
 is-marked-requires c κs = search needs
 
--- src/lib.rt:150:9
 returns : tie.Need-returns
 returns c = rw (← c .before .is-marked .ensures, c .if1 .taken)
 
--- src/lib.rt:153:5
 is-block-style-requires : tie.Need-is-block-style-requires
 is-block-style-requires c κs = search needs
 
--- src/lib.rt:146:1
 returns-2 : tie.Need-returns-2
 returns-2 c = rw (← c .before .before .is-marked .ensures, c .before .if1 .left) (c .is-block-style .ensures)
 

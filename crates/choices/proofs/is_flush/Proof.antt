@@ -3,21 +3,17 @@ use borrow.Author.Needs.{needs}
 use Rattle.choices.proofs.is_flush.Statement.{statement}
 use Rattle.choices.proofs.is_flush.Tie as tie
 
--- src/lib.rt:261:21
 is-held-requires : tie.Need-is-held-requires
 is-held-requires c κs = search needs
 
--- src/lib.rt:261:13
 returns : tie.Need-returns
 unfolding flushIn
 returns c = rw (c .before .before .if1 .taken, c .before .if2 .taken, ← c .is-held .ensures)
 
--- src/lib.rt:263:9
 returns-2 : tie.Need-returns-2
 unfolding flushIn
 returns-2 c = rw (c .before .if1 .taken, c .if2 .left)
 
--- src/lib.rt:256:1
 returns-3 : tie.Need-returns-3
 unfolding flushIn
 returns-3 c = rw (c .before .if1 .left)

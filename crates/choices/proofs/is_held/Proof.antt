@@ -3,7 +3,6 @@ use Rattle.parts.specs.Runs.{hasHeld}
 use Rattle.choices.proofs.is_held.Statement.{statement}
 use Rattle.choices.proofs.is_held.Tie as tie
 
--- src/lib.rt:240:1
 returns : tie.Need-returns
 unfolding hasHeld
 returns c = refl

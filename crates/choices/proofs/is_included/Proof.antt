@@ -4,7 +4,6 @@ use Rattle.choices.specs.Choices.{includedIn}
 use Rattle.choices.proofs.is_included.Statement.{statement}
 use Rattle.choices.proofs.is_included.Tie as tie
 
--- src/lib.rt:140:1
 returns : tie.Need-returns
 unfolding includedIn on
 returns c = refl

@@ -4,25 +4,20 @@ use borrow.Author.Needs.{needs}
 use Rattle.choices.proofs.is_silent.Statement.{statement}
 use Rattle.choices.proofs.is_silent.Tie as tie
 
--- src/lib.rt:211:9
 returns : tie.Need-returns
 unfolding on
 returns c = rw (ne-eqb _ _ (c .if1 .taken))
 
--- src/lib.rt:213:8
 is-edited-requires : tie.Need-is-edited-requires
 is-edited-requires c κs = search needs
 
--- src/lib.rt:214:9
 is-empty-style-requires : tie.Need-is-empty-style-requires
 is-empty-style-requires c κs = search needs
 
--- src/lib.rt:214:9
 returns-2 : tie.Need-returns-2
 unfolding on
 returns-2 c = rw (eq-eqb _ _ (c .before .before .before .if1 .left), ← c .before .before .is-edited .ensures, c .before .if2 .taken) (c .is-empty-style .ensures)
 
--- src/lib.rt:207:1
 returns-3 : tie.Need-returns-3
 unfolding on
 returns-3 c = rw (eq-eqb _ _ (c .before .before .if1 .left), ← c .before .is-edited .ensures, c .if2 .left)

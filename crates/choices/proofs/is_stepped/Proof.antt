@@ -2,19 +2,15 @@ use borrow.Author.Needs.{needs}
 use Rattle.choices.proofs.is_stepped.Statement.{statement}
 use Rattle.choices.proofs.is_stepped.Tie as tie
 
--- src/lib.rt:291:8
 is-either-requires : tie.Need-is-either-requires
 is-either-requires c κs = search needs
 
--- src/lib.rt:292:17
 is-sequence-requires : tie.Need-is-sequence-requires
 is-sequence-requires c κs = search needs
 
--- src/lib.rt:292:9
 returns : tie.Need-returns
 returns c = rw (← c .before .before .is-either .ensures, c .before .if1 .taken, ← c .is-sequence .ensures)
 
--- src/lib.rt:288:1
 returns-2 : tie.Need-returns-2
 returns-2 c = rw (← c .before .is-either .ensures, c .if1 .left)
 

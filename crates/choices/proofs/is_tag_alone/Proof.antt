@@ -4,25 +4,20 @@ use borrow.Author.Needs.{needs}
 use Rattle.choices.proofs.is_tag_alone.Statement.{statement}
 use Rattle.choices.proofs.is_tag_alone.Tie as tie
 
--- src/lib.rt:366:9
 returns : tie.Need-returns
 unfolding on
 returns c = rw (ne-eqb _ _ (c .if1 .taken))
 
--- src/lib.rt:368:8
 is-held-requires : tie.Need-is-held-requires
 is-held-requires c κs = search needs
 
--- src/lib.rt:369:9
 returns-2 : tie.Need-returns-2
 unfolding on
 returns-2 c = rw (eq-eqb _ _ (c .before .before .if1 .left), ← c .before .is-held .ensures, c .if2 .taken)
 
--- src/lib.rt:371:5
 is-empty-style-requires : tie.Need-is-empty-style-requires
 is-empty-style-requires c κs = search needs
 
--- src/lib.rt:362:1
 returns-3 : tie.Need-returns-3
 unfolding on
 returns-3 c = rw (eq-eqb _ _ (c .before .before .before .if1 .left), ← c .before .before .is-held .ensures, c .before .if2 .left) (c .is-empty-style .ensures)

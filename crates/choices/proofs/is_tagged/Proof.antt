@@ -2,19 +2,15 @@ use borrow.Author.Needs.{needs}
 use Rattle.choices.proofs.is_tagged.Statement.{statement}
 use Rattle.choices.proofs.is_tagged.Tie as tie
 
--- src/lib.rt:343:8
 is-marked-requires : tie.Need-is-marked-requires
 is-marked-requires c κs = search needs
 
--- src/lib.rt:344:9
 is-held-requires : tie.Need-is-held-requires
 is-held-requires c κs = search needs
 
--- src/lib.rt:344:9
 returns : tie.Need-returns
 returns c = rw (← c .before .before .is-marked .ensures, c .before .if1 .taken) (c .is-held .ensures)
 
--- src/lib.rt:340:1
 returns-2 : tie.Need-returns-2
 returns-2 c = rw (← c .before .is-marked .ensures, c .if1 .left)
 

@@ -4,16 +4,13 @@ use borrow.Author.Needs.{needs}
 use Rattle.choices.proofs.is_unbroken.Statement.{statement}
 use Rattle.choices.proofs.is_unbroken.Tie as tie
 
--- src/lib.rt:313:9
 returns : tie.Need-returns
 unfolding on
 returns c = rw (ne-eqb _ _ (c .if1 .taken))
 
--- src/lib.rt:315:6
 is-marked-requires : tie.Need-is-marked-requires
 is-marked-requires c κs = search needs
 
--- src/lib.rt:309:1
 returns-2 : tie.Need-returns-2
 unfolding on
 returns-2 c = rw (eq-eqb _ _ (c .before .if1 .left), ← c .is-marked .ensures)

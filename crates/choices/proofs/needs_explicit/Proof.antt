@@ -3,63 +3,49 @@ use borrow.Author.Needs.{needs}
 use Rattle.choices.proofs.needs_explicit.Statement.{statement}
 use Rattle.choices.proofs.needs_explicit.Tie as tie
 
--- src/lib.rt:161:23
 enum-told : tie.Need-enum-told
 enum-told c = search needs
 
--- src/lib.rt:162:22
 enum-known-body : tie.Need-enum-known-body
 enum-known-body c = search needs
 
--- src/lib.rt:162:31
 is-explicit-scalar-requires : tie.Need-is-explicit-scalar-requires
 is-explicit-scalar-requires c κs = search needs
 
--- src/lib.rt:163:27
 enum-told-2 : tie.Need-enum-told-2
 enum-told-2 c = search needs
 
--- src/lib.rt:163:27
 is-marked-requires : tie.Need-is-marked-requires
 is-marked-requires c κs = search needs
 
--- src/lib.rt:164:24
 enum-known-body-2 : tie.Need-enum-known-body-2
 enum-known-body-2 c = search needs
 
--- src/lib.rt:164:30
 is-block-group-requires : tie.Need-is-block-group-requires
 is-block-group-requires c κs = search needs
 
--- src/lib.rt:165:23
 enum-known-body-3 : tie.Need-enum-known-body-3
 enum-known-body-3 c = search needs
 
--- src/lib.rt:165:29
 is-block-group-requires-2 : tie.Need-is-block-group-requires-2
 is-block-group-requires-2 c κs = search needs
 
--- src/lib.rt:157:1
 returns : tie.Need-returns
 unfolding needsIn
 returns c = rw (c .enum-told .given .1)
 
--- src/lib.rt:157:1
 returns-2 : tie.Need-returns-2
 unfolding needsIn
 returns-2 c = rw (c .before .before .body .given .1) (c .is-explicit-scalar .ensures)
 
--- src/lib.rt:157:1
 returns-3 : tie.Need-returns-3
 unfolding needsIn
 returns-3 c = rw (c .before .enum-told2 .given .1) (c .is-marked .ensures)
 
--- src/lib.rt:157:1
 returns-4 : tie.Need-returns-4
 unfolding needsIn
 returns-4 c = rw (c .before .before .body2 .given .1) (c .is-block-group .ensures)
 
--- src/lib.rt:157:1
 returns-5 : tie.Need-returns-5
 unfolding needsIn
 returns-5 c = rw (c .before .before .body3 .given .1) (c .is-block-group2 .ensures)

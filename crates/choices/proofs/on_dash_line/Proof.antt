@@ -3,33 +3,26 @@ use borrow.Author.Needs.{needs}
 use Rattle.choices.proofs.on_dash_line.Statement.{statement}
 use Rattle.choices.proofs.on_dash_line.Tie as tie
 
--- src/lib.rt:322:8
 is-either-requires : tie.Need-is-either-requires
 is-either-requires c κs = search needs
 
--- src/lib.rt:323:9
 returns : tie.Need-returns
 unfolding onDashLineIn
 returns c = rw (← c .before .is-either .ensures, c .if1 .taken)
 
--- src/lib.rt:325:8
 is-sequence-requires : tie.Need-is-sequence-requires
 is-sequence-requires c κs = search needs
 
--- src/lib.rt:326:9
 is-marked-requires : tie.Need-is-marked-requires
 is-marked-requires c κs = search needs
 
--- src/lib.rt:326:9
 returns-2 : tie.Need-returns-2
 unfolding onDashLineIn
 returns-2 c = rw (← c .before .before .before .before .is-either .ensures, c .before .before .before .if1 .left, ← c .before .before .is-sequence .ensures, c .before .if2 .taken) (c .is-marked .ensures)
 
--- src/lib.rt:328:5
 is-unbroken-requires : tie.Need-is-unbroken-requires
 is-unbroken-requires c κs = search needs
 
--- src/lib.rt:319:1
 returns-3 : tie.Need-returns-3
 unfolding onDashLineIn
 returns-3 c = rw (← c .before .before .before .before .is-either .ensures, c .before .before .before .if1 .left, ← c .before .before .is-sequence .ensures, c .before .if2 .left) (c .is-unbroken .ensures)

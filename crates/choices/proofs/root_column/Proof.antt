@@ -4,20 +4,16 @@ use borrow.Author.Needs.{needs}
 use Rattle.choices.proofs.root_column.Statement.{statement}
 use Rattle.choices.proofs.root_column.Tie as tie
 
--- src/lib.rt:363:8
 is-under-tag-requires : tie.Need-is-under-tag-requires
 is-under-tag-requires c κs = search needs
 
--- src/lib.rt:364:9
 step-of-requires : tie.Need-step-of-requires
 step-of-requires c κs = search needs
 
--- src/lib.rt:364:9
 returns : tie.Need-returns
 unfolding rootColumnIn
 returns c = (rw (← c .before .before .is-under-tag .ensures, c .before .if1 .taken) (c .step-of .ensures .0), c .step-of .ensures .1)
 
--- src/lib.rt:360:1
 returns-2 : tie.Need-returns-2
 unfolding rootColumnIn
 returns-2 c = (rw (← c .before .is-under-tag .ensures, c .if1 .left), λ h. omega arith)

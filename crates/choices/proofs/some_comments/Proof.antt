@@ -13,43 +13,33 @@ Inv-loop deck n here₀ left₀ here left = Same deck left here left₀ here₀ 
 abbrev μ-loop : tie.MeasureT-loop
 μ-loop deck n here₀ left₀ here left = left
 
--- src/lib.rt:389:9
 returns : tie.Need-returns Inv-loop μ-loop
 returns c = none _ _ _ (c .if1 .taken)
 
--- src/lib.rt:393:5
 loop-holds : tie.Need-loop-holds Inv-loop μ-loop
 loop-holds c = (record { same = λ pool. refl }, (c .before .before .pre) .0, (let z = c .if1 .left in omega arith))
 
--- src/lib.rt:394:12
 has-comments-requires : tie.Need-has-comments-requires Inv-loop μ-loop
 has-comments-requires c κs = c .before .loop .inv .1
 
--- src/lib.rt:395:13
 returns-2 : tie.Need-returns-2 Inv-loop μ-loop
 returns-2 c = found _ _ _ _ _ (c .before .before .before .loop .inv .2) (c .before .before .before .loop .inv .1) (c .before .has-comments .ensures) (c .if2 .taken) (c .before .before .before .loop .inv .0)
 
--- src/lib.rt:397:9
 subtree-end-requires : tie.Need-subtree-end-requires Inv-loop μ-loop
 subtree-end-requires c κs = (c .before .before .before .loop .inv .1, (c .before .before .before .before .before .before .pre) .1)
 
--- src/lib.rt:398:9
 sub-left : tie.Need-sub-left Inv-loop μ-loop
 sub-left c = search needs
 
--- src/lib.rt:393:5
 loop-less : tie.Need-loop-less Inv-loop μ-loop
 loop-less c = search needs
 
--- src/lib.rt:393:5
 loop-again : tie.Need-loop-again Inv-loop μ-loop
 loop-again c = (passed _ _ _ _ _ (c .before .before .before .before .loop .inv .2) (c .before .before .before .before .loop .inv .1) (c .before .before .has-comments .ensures) (c .before .if2 .left) (c .subtree-end .ensures) (c .before .before .before .before .loop .inv .0), c .subtree-end .ensures .within, (let z = c .before .before .before .loop-test .taken in omega arith))
 
--- src/lib.rt:400:5
 has-comments-requires-2 : tie.Need-has-comments-requires-2 Inv-loop μ-loop
 has-comments-requires-2 c κs = c .before .loop .inv .1
 
--- src/lib.rt:384:1
 returns-3 : tie.Need-returns-3 Inv-loop μ-loop
 returns-3 c = last _ _ _ _ _ _ (let y = c .before .before .loop .inv .2 in let z = c .before .loop-test .left in omega arith) (c .before .before .loop .inv .1) (c .has-comments2 .ensures) (c .before .before .loop .inv .0)
 

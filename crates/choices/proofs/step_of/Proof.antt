@@ -4,12 +4,10 @@ use borrow.Author.Tests.{eq-eqb, ne-eqb}
 use Rattle.choices.proofs.step_of.Statement.{statement}
 use Rattle.choices.proofs.step_of.Tie as tie
 
--- src/lib.rt:235:9
 returns : tie.Need-returns
 unfolding stepOf
 returns c = (rw (eq-eqb _ _ (c .if1 .taken)), λ h. omega arith)
 
--- src/lib.rt:230:1
 returns-2 : tie.Need-returns-2
 unfolding stepOf
 returns-2 c = (rw (ne-eqb _ _ (c .if1 .left)), λ h. h)

@@ -4,24 +4,19 @@ use borrow.Author.Needs.{needs}
 use Rattle.choices.proofs.value_column.Statement.{statement}
 use Rattle.choices.proofs.value_column.Tie as tie
 
--- src/lib.rt:282:8
 is-flush-sequence-requires : tie.Need-is-flush-sequence-requires
 is-flush-sequence-requires c κs = search needs
 
--- src/lib.rt:283:9
 returns : tie.Need-returns
 unfolding valueColumnIn
 returns c = (rw (← c .before .is-flush-sequence .ensures, c .if1 .taken), omega arith, omega arith)
 
--- src/lib.rt:285:9
 step-of-requires : tie.Need-step-of-requires
 step-of-requires c κs = search needs
 
--- src/lib.rt:285:5
 add-result : tie.Need-add-result
 add-result c = let p = c .before .before .before .pre in let k = c .step-of .ensures .1 (p .1) in omega (arith, k, p .0)
 
--- src/lib.rt:278:1
 returns-2 : tie.Need-returns-2
 unfolding valueColumnIn
 returns-2 c = let p = c .before .before .before .pre in let k = c .step-of .ensures .1 (p .1) in

@@ -2,7 +2,6 @@ use Rattle.pen.specs.Shown.{fresh}
 use Rattle.document.proofs.fresh_writer.Statement.{statement}
 use Rattle.document.proofs.fresh_writer.Tie as tie
 
--- src/lib.rt:347:1
 returns : tie.Need-returns
 unfolding fresh
 returns c = cc

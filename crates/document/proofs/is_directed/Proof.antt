@@ -2,15 +2,12 @@ use borrow.Author.Needs.{needs}
 use Rattle.document.proofs.is_directed.Statement.{statement}
 use Rattle.document.proofs.is_directed.Tie as tie
 
--- src/lib.rt:192:8
 is-included-requires : tie.Need-is-included-requires
 is-included-requires c κs = search needs
 
--- src/lib.rt:193:9
 returns : tie.Need-returns
 returns c = rw (← c .before .is-included .ensures, c .if1 .taken)
 
--- src/lib.rt:189:1
 returns-2 : tie.Need-returns-2
 returns-2 c = rw (← c .before .is-included .ensures, c .if1 .left)
 

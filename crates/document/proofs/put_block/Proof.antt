@@ -5,23 +5,18 @@ use borrow.Author.Needs.{needs}
 use Rattle.document.proofs.put_block.Statement.{statement}
 use Rattle.document.proofs.put_block.Tie as tie
 
--- src/lib.rt:136:9
 root-column-requires : tie.Need-root-column-requires
 root-column-requires c κs = search needs
 
--- src/lib.rt:137:9
 put-props-line-requires : tie.Need-put-props-line-requires
 put-props-line-requires c κs = search needs
 
--- src/lib.rt:138:5
 put-members-requires : tie.Need-put-members-requires
 put-members-requires c κs = let p = (c .before .before .before .before .before .before .before .before .before .pre) in let b = calm-drawn (p .0) (c .before .before .before .put-props-line .ensures) in (root-calm b _ _ (p .1 .ahead) (p .1 .within) (c .before .before .before .before .before .root-column .ensures .1 (p .0 .ready .step)), p .1, p .2)
 
--- src/lib.rt:123:1
 same-length : tie.Need-same-length
 same-length c = search needs
 
--- src/lib.rt:123:1
 returns : tie.Need-returns
 returns c = block-whole _ _ _ _ _ _ (c .before .before .before .before .before .before .before .before .root-column .ensures .0) (c .before .before .before .before .before .before .put-props-line .ensures) (c .before .before .put-members .ensures)
 

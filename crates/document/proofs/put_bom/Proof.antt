@@ -6,28 +6,22 @@ use borrow.Author.Needs.{needs}
 use Rattle.document.proofs.put_bom.Statement.{statement}
 use Rattle.document.proofs.put_bom.Tie as tie
 
--- src/lib.rt:67:8
 is-marked-requires : tie.Need-is-marked-requires
 is-marked-requires c κs = search needs
 
--- src/lib.rt:68:28
 slice-aggregate-text : tie.Need-slice-aggregate-text
 slice-aggregate-text c = search needs
 
--- src/lib.rt:68:9
 text-requires : tie.Need-text-requires
 text-requires c κs = search needs
 
--- src/lib.rt:68:9
 same-length : tie.Need-same-length
 same-length c = search needs
 
--- src/lib.rt:68:9
 returns : tie.Need-returns
 unfolding bomIn
 returns c = draws-yes _ _ _ (sym (c .before .before .before .before .before .before .is-marked .ensures) ∙ c .before .before .before .before .before .if1 .taken) (of-puts mark _ (c .before .before .text .ensures))
 
--- src/lib.rt:63:1
 returns-2 : tie.Need-returns-2
 unfolding bomIn
 returns-2 c = draws-no _ _ _ (sym (c .before .is-marked .ensures) ∙ c .if1 .left) stays

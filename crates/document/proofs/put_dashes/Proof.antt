@@ -5,23 +5,18 @@ use borrow.Author.Needs.{needs}
 use Rattle.document.proofs.put_dashes.Statement.{statement}
 use Rattle.document.proofs.put_dashes.Tie as tie
 
--- src/lib.rt:50:26
 slice-aggregate-text : tie.Need-slice-aggregate-text
 slice-aggregate-text c = search needs
 
--- src/lib.rt:50:9
 text-requires : tie.Need-text-requires
 text-requires c κs = search needs
 
--- src/lib.rt:51:5
 byte-requires : tie.Need-byte-requires
 byte-requires c κs = search needs
 
--- src/lib.rt:46:1
 same-length : tie.Need-same-length
 same-length c = search needs
 
--- src/lib.rt:46:1
 returns : tie.Need-returns
 unfolding dashes newline
 returns c = both _ _ (of-puts mark _ (c .before .before .before .before .before .before .text .ensures)) (of-byte space _ (c .before .before .byte .ensures))

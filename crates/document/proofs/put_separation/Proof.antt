@@ -9,37 +9,29 @@ use borrow.Author.Needs.{needs}
 use Rattle.document.proofs.put_separation.Statement.{statement}
 use Rattle.document.proofs.put_separation.Tie as tie
 
--- src/lib.rt:102:9
 put-dots-requires : tie.Need-put-dots-requires
 put-dots-requires c κs = search needs
 
--- src/lib.rt:102:9
 same-length : tie.Need-same-length
 same-length c = search needs
 
--- src/lib.rt:102:9
 returns : tie.Need-returns
 unfolding separationIn on
 returns c = draws-yes _ _ _ (ap not (ne-eqb _ _ (c .before .before .before .before .if1 .taken))) (c .before .before .put-dots .ensures)
 
--- src/lib.rt:105:8
 is-marked-requires : tie.Need-is-marked-requires
 is-marked-requires c κs = search needs
 
--- src/lib.rt:106:9
 returns-2 : tie.Need-returns-2
 unfolding separationIn on
 returns-2 c = draws-no _ _ _ (ap not (eq-eqb _ _ (c .before .before .if1 .left))) (draws-yes _ _ _ (sym (c .before .is-marked .ensures) ∙ c .if2 .taken) stays)
 
--- src/lib.rt:108:5
 put-dashes-requires : tie.Need-put-dashes-requires
 put-dashes-requires c κs = search needs
 
--- src/lib.rt:96:1
 same-length-2 : tie.Need-same-length-2
 same-length-2 c = search needs
 
--- src/lib.rt:96:1
 returns-3 : tie.Need-returns-3
 unfolding separationIn on
 returns-3 c = draws-no _ _ _ (ap not (eq-eqb _ _ (c .before .before .before .before .before .before .if1 .left))) (draws-no _ _ _ (sym (c .before .before .before .before .before .is-marked .ensures) ∙ c .before .before .before .before .if2 .left) (c .before .before .put-dashes .ensures))

@@ -5,24 +5,19 @@ use borrow.Author.Needs.{needs}
 use Rattle.document.proofs.put_start.Statement.{statement}
 use Rattle.document.proofs.put_start.Tie as tie
 
--- src/lib.rt:78:8
 is-marked-requires : tie.Need-is-marked-requires
 is-marked-requires c κs = search needs
 
--- src/lib.rt:79:9
 put-dashes-requires : tie.Need-put-dashes-requires
 put-dashes-requires c κs = search needs
 
--- src/lib.rt:79:9
 same-length : tie.Need-same-length
 same-length c = search needs
 
--- src/lib.rt:79:9
 returns : tie.Need-returns
 unfolding startIn
 returns c = draws-yes _ _ _ (sym (c .before .before .before .before .before .is-marked .ensures) ∙ c .before .before .before .before .if1 .taken) (c .before .before .put-dashes .ensures)
 
--- src/lib.rt:74:1
 returns-2 : tie.Need-returns-2
 unfolding startIn
 returns-2 c = draws-no _ _ _ (sym (c .before .is-marked .ensures) ∙ c .if1 .left) stays

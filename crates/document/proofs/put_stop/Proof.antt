@@ -4,20 +4,16 @@ use borrow.Author.Needs.{needs}
 use Rattle.document.proofs.put_stop.Statement.{statement}
 use Rattle.document.proofs.put_stop.Tie as tie
 
--- src/lib.rt:90:9
 put-dots-requires : tie.Need-put-dots-requires
 put-dots-requires c κs = search needs
 
--- src/lib.rt:90:9
 same-length : tie.Need-same-length
 same-length c = search needs
 
--- src/lib.rt:90:9
 returns : tie.Need-returns
 unfolding stopIn
 returns c = draws-yes _ _ _ (c .before .before .before .before .if1 .taken) (c .before .before .put-dots .ensures)
 
--- src/lib.rt:85:1
 returns-2 : tie.Need-returns-2
 unfolding stopIn
 returns-2 c = draws-no _ _ _ (c .if1 .left) stays

@@ -2,12 +2,10 @@ use Rattle.joints.specs.Entries.{closing}
 use Rattle.joints.proofs.closing_of.Statement.{statement}
 use Rattle.joints.proofs.closing_of.Tie as tie
 
--- src/lib.rt:140:1
 returns : tie.Need-returns
 unfolding closing
 returns c = rw (c .if1 .taken)
 
--- src/lib.rt:140:1
 returns-2 : tie.Need-returns-2
 unfolding closing
 returns-2 c = rw (c .if1 .left)

@@ -3,15 +3,12 @@ use borrow.Author.Needs.{needs}
 use Rattle.joints.proofs.last_of.Statement.{statement}
 use Rattle.joints.proofs.last_of.Tie as tie
 
--- src/lib.rt:79:9
 subtree-end-requires : tie.Need-subtree-end-requires
 subtree-end-requires c κs = search needs
 
--- src/lib.rt:79:9
 returns : tie.Need-returns
 returns c = last-value _ _ _ _ (c .before .if1 .taken) (c .subtree-end .ensures)
 
--- src/lib.rt:74:1
 returns-2 : tie.Need-returns-2
 returns-2 c = last-item _ _ _ (c .if1 .left) ((c .before .before .pre) .0)
 

@@ -2,12 +2,10 @@ use Rattle.joints.specs.Entries.{opening}
 use Rattle.joints.proofs.opening_of.Statement.{statement}
 use Rattle.joints.proofs.opening_of.Tie as tie
 
--- src/lib.rt:134:1
 returns : tie.Need-returns
 unfolding opening
 returns c = rw (c .if1 .taken)
 
--- src/lib.rt:134:1
 returns-2 : tie.Need-returns-2
 unfolding opening
 returns-2 c = rw (c .if1 .left)

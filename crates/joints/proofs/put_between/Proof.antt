@@ -5,20 +5,16 @@ use borrow.Author.Needs.{needs}
 use Rattle.joints.proofs.put_between.Statement.{statement}
 use Rattle.joints.proofs.put_between.Tie as tie
 
--- src/lib.rt:44:9
 returns : tie.Need-returns
 unfolding ink nothing puts
 returns c = rw (c .if1 .taken)
 
--- src/lib.rt:47:5
 put-separator-requires : tie.Need-put-separator-requires
 put-separator-requires c κs = search needs
 
--- src/lib.rt:39:1
 same-length : tie.Need-same-length
 same-length c = search needs
 
--- src/lib.rt:39:1
 returns-2 : tie.Need-returns-2
 unfolding ink on
 returns-2 c = rw (c .before .before .before .before .before .if1 .left) (c .before .before .put-separator .ensures)

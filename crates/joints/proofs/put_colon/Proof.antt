@@ -3,87 +3,66 @@ use borrow.Author.Needs.{needs}
 use Rattle.joints.proofs.put_colon.Statement.{statement}
 use Rattle.joints.proofs.put_colon.Tie as tie
 
--- src/lib.rt:56:30
 enum-told : tie.Need-enum-told
 enum-told c = search needs
 
--- src/lib.rt:56:23
 byte-requires : tie.Need-byte-requires
 byte-requires c κs = search needs
 
--- src/lib.rt:57:35
 enum-told-2 : tie.Need-enum-told-2
 enum-told-2 c = search needs
 
--- src/lib.rt:57:28
 byte-requires-2 : tie.Need-byte-requires-2
 byte-requires-2 c κs = search needs
 
--- src/lib.rt:58:34
 enum-told-3 : tie.Need-enum-told-3
 enum-told-3 c = search needs
 
--- src/lib.rt:58:39
 slice-aggregate-text : tie.Need-slice-aggregate-text
 slice-aggregate-text c = search needs
 
--- src/lib.rt:58:27
 text-requires : tie.Need-text-requires
 text-requires c κs = search needs
 
--- src/lib.rt:59:37
 enum-told-4 : tie.Need-enum-told-4
 enum-told-4 c = search needs
 
--- src/lib.rt:59:30
 byte-requires-3 : tie.Need-byte-requires-3
 byte-requires-3 c κs = search needs
 
--- src/lib.rt:60:36
 enum-told-5 : tie.Need-enum-told-5
 enum-told-5 c = search needs
 
--- src/lib.rt:60:29
 byte-requires-4 : tie.Need-byte-requires-4
 byte-requires-4 c κs = search needs
 
--- src/lib.rt:51:1
 same-length : tie.Need-same-length
 same-length c = search needs
 
--- src/lib.rt:51:1
 returns : tie.Need-returns
 returns c = colon-null _ _ _ (c .before .before .before .before .enum-told .given .1) (c .before .before .byte .ensures)
 
--- src/lib.rt:51:1
 same-length-2 : tie.Need-same-length-2
 same-length-2 c = search needs
 
--- src/lib.rt:51:1
 returns-2 : tie.Need-returns-2
 returns-2 c = colon-scalar _ _ _ _ (c .before .before .before .before .enum-told2 .given .1) (c .before .before .byte2 .ensures)
 
--- src/lib.rt:51:1
 same-length-3 : tie.Need-same-length-3
 same-length-3 c = search needs
 
--- src/lib.rt:51:1
 returns-3 : tie.Need-returns-3
 returns-3 c = colon-alias _ _ _ _ (c .before .before .before .before .before .enum-told3 .given .1) (c .before .before .text .ensures)
 
--- src/lib.rt:51:1
 same-length-4 : tie.Need-same-length-4
 same-length-4 c = search needs
 
--- src/lib.rt:51:1
 returns-4 : tie.Need-returns-4
 returns-4 c = colon-sequence _ _ _ _ (c .before .before .before .before .enum-told4 .given .1) (c .before .before .byte3 .ensures)
 
--- src/lib.rt:51:1
 same-length-5 : tie.Need-same-length-5
 same-length-5 c = search needs
 
--- src/lib.rt:51:1
 returns-5 : tie.Need-returns-5
 returns-5 c = colon-mapping _ _ _ _ (c .before .before .before .before .enum-told5 .given .1) (c .before .before .byte4 .ensures)
 

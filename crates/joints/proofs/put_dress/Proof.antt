@@ -6,24 +6,19 @@ use borrow.Author.Needs.{needs}
 use Rattle.joints.proofs.put_dress.Statement.{statement}
 use Rattle.joints.proofs.put_dress.Tie as tie
 
--- src/lib.rt:104:8
 rank-of-requires : tie.Need-rank-of-requires
 rank-of-requires c κs = search needs
 
--- src/lib.rt:105:9
 returns : tie.Need-returns
 unfolding dressed
 returns c = draws-yes _ _ _ (eq-eqb _ _ (rw (c .before .rank-of .ensures) at (c .if1 .taken))) stays
 
--- src/lib.rt:107:5
 put-props-requires : tie.Need-put-props-requires
 put-props-requires c κs = search needs
 
--- src/lib.rt:93:1
 same-length : tie.Need-same-length
 same-length c = search needs
 
--- src/lib.rt:93:1
 returns-2 : tie.Need-returns-2
 unfolding dressed
 returns-2 c = draws-no _ _ _ (ne-eqb _ _ (rw (c .before .before .before .before .before .rank-of .ensures) at (c .before .before .before .before .if1 .left))) (of-props _ _ (c .before .before .before .before .before .before .before .before .before .args .x .lead) (c .before .before .put-props .ensures))

@@ -3,47 +3,37 @@ use borrow.Author.Needs.{needs}
 use Rattle.joints.proofs.rank_of.Statement.{statement}
 use Rattle.joints.proofs.rank_of.Tie as tie
 
--- src/lib.rt:84:26
 enum-told : tie.Need-enum-told
 enum-told c = search needs
 
--- src/lib.rt:85:26
 enum-told-2 : tie.Need-enum-told-2
 enum-told-2 c = search needs
 
--- src/lib.rt:86:26
 enum-told-3 : tie.Need-enum-told-3
 enum-told-3 c = search needs
 
--- src/lib.rt:87:24
 enum-told-4 : tie.Need-enum-told-4
 enum-told-4 c = search needs
 
--- src/lib.rt:88:26
 enum-told-5 : tie.Need-enum-told-5
 enum-told-5 c = search needs
 
--- src/lib.rt:80:1
 returns : tie.Need-returns
 unfolding rankOf
 returns c = rw (c .enum-told .given .1)
 
--- src/lib.rt:80:1
 returns-2 : tie.Need-returns-2
 unfolding rankOf
 returns-2 c = rw (c .enum-told2 .given .1)
 
--- src/lib.rt:80:1
 returns-3 : tie.Need-returns-3
 unfolding rankOf
 returns-3 c = rw (c .enum-told3 .given .1)
 
--- src/lib.rt:80:1
 returns-4 : tie.Need-returns-4
 unfolding rankOf
 returns-4 c = rw (c .enum-told4 .given .1)
 
--- src/lib.rt:80:1
 returns-5 : tie.Need-returns-5
 unfolding rankOf
 returns-5 c = rw (c .enum-told5 .given .1)

@@ -3,7 +3,6 @@ use Rattle.scripts.specs.Keep.{withFlow}
 use Rattle.joints.proofs.with_flow.Statement.{statement}
 use Rattle.joints.proofs.with_flow.Tie as tie
 
--- src/lib.rt:24:1
 returns : tie.Need-returns
 unfolding withFlow
 returns c = refl

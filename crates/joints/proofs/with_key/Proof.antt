@@ -3,7 +3,6 @@ use Rattle.scripts.specs.Keep.{withKey}
 use Rattle.joints.proofs.with_key.Statement.{statement}
 use Rattle.joints.proofs.with_key.Tie as tie
 
--- src/lib.rt:31:1
 returns : tie.Need-returns
 unfolding withKey
 returns c = refl

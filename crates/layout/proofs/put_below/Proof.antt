@@ -5,19 +5,15 @@ use borrow.Author.Needs.{needs}
 use Rattle.layout.proofs.put_below.Statement.{statement}
 use Rattle.layout.proofs.put_below.Tie as tie
 
--- src/lib.rt:83:9
 put-below-requires : tie.Need-put-below-requires
 put-below-requires c κs = search needs
 
--- src/lib.rt:84:5
 line-requires : tie.Need-line-requires
 line-requires c κs = let p = c .before .before .before .before .before .before .before .before .pre in (after-drawn (p .0) (c .before .before .before .put-below .ensures), p .1, p .2, untold-in _ _ _)
 
--- src/lib.rt:70:1
 same-length : tie.Need-same-length
 same-length c = search needs
 
--- src/lib.rt:70:1
 returns : tie.Need-returns
 returns c = let p = c .before .before .before .before .before .before .before .before .before .before .before .pre in below-whole _ _ _ _ _ _ _ _ _ (p .3) (p .4) (c .before .before .before .before .before .before .put-below .ensures) (c .before .before .line .ensures)
 

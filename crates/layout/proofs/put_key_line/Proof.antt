@@ -7,19 +7,15 @@ use borrow.Author.Needs.{needs}
 use Rattle.layout.proofs.put_key_line.Statement.{statement}
 use Rattle.layout.proofs.put_key_line.Tie as tie
 
--- src/lib.rt:108:9
 byte-requires : tie.Need-byte-requires
 byte-requires c κs = search needs
 
--- src/lib.rt:109:5
 line-requires : tie.Need-line-requires
 line-requires c κs = let p = c .before .before .before .before .before .before .before .before .pre in (after-drawn (p .0) (of-byte mark _ (c .before .before .before .byte .ensures)), p .1, p .2, untold-in _ _ _)
 
--- src/lib.rt:96:1
 same-length : tie.Need-same-length
 same-length c = search needs
 
--- src/lib.rt:96:1
 returns : tie.Need-returns
 returns c = let p = c .before .before .before .before .before .before .before .before .before .before .before .pre in key-line-whole _ _ _ _ _ _ _ _ _ (p .3) (p .4) (c .before .before .before .before .before .before .byte .ensures) (c .before .before .line .ensures)
 

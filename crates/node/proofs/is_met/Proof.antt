@@ -3,15 +3,12 @@ use borrow.Author.Needs.{needs}
 use Rattle.node.proofs.is_met.Statement.{statement}
 use Rattle.node.proofs.is_met.Tie as tie
 
--- src/lib.rt:261:9
 is-comment-requires : tie.Need-is-comment-requires
 is-comment-requires c κs = search needs
 
--- src/lib.rt:261:9
 returns : tie.Need-returns
 returns c = rw (c .before .if1 .taken) (c .is-comment .ensures)
 
--- src/lib.rt:257:1
 returns-2 : tie.Need-returns-2
 returns-2 c = search needs
 

@@ -9,27 +9,21 @@ use Rattle.node.proofs.left_after.Lts as lts
 use Rattle.deck.proofs.is_node.Reads as is-node-reads
 use Rattle.deck.proofs.kids.Reads as kids-reads
 
--- src/lib.rt:271:8
 is-node-requires : tie.Need-is-node-requires
 is-node-requires c κs = search needs
 
--- src/lib.rt:272:16
 sub-result : tie.Need-sub-result
 sub-result c = search needs
 
--- src/lib.rt:272:27
 kids-requires : tie.Need-kids-requires
 kids-requires c κs = search needs
 
--- src/lib.rt:272:16
 add-result : tie.Need-add-result
 add-result c = search needs
 
--- src/lib.rt:272:9
 returns : tie.Need-returns
 returns c = (unfold leftAfter in rw (← c .before .before .is-node .ensures, c .before .if1 .taken, ← c .kids .ensures .0) refl, (let k = c .kids .ensures .1 in omega arith))
 
--- src/lib.rt:267:1
 returns-2 : tie.Need-returns-2
 returns-2 c = (unfold leftAfter in rw (← c .before .is-node .ensures, c .if1 .left) refl, omega arith)
 

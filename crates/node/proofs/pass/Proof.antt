@@ -12,35 +12,27 @@ Inv-loop deck n minding here₀ left₀ here left = Going deck minding left₀ h
 abbrev μ-loop : tie.MeasureT-loop
 μ-loop deck n minding here₀ left₀ here left = weight * (length deck - here .at) + left
 
--- src/lib.rt:284:5
 loop-holds : tie.Need-loop-holds Inv-loop μ-loop
 loop-holds c = start _ _ _ _ (c .before .pre .0)
 
--- src/lib.rt:285:12
 is-met-requires : tie.Need-is-met-requires Inv-loop μ-loop
 is-met-requires c κs = tt
 
--- src/lib.rt:286:13
 returns : tie.Need-returns Inv-loop μ-loop
 returns c = at-comment _ (c .before .before .before .loop .here) (c .before .before .before .loop .inv .within) (c .before .before .before .loop .left) (c .before .before .loop-test .taken) _ _ _ (c .before .before .before .loop .inv) _ (c .before .is-met .ensures) (c .if1 .taken)
 
--- src/lib.rt:288:9
 left-after-requires : tie.Need-left-after-requires Inv-loop μ-loop
 left-after-requires c κs = (c .before .before .before .loop .inv .within, c .before .before .loop-test .taken, (let b = c .before .before .before .loop .inv .bound in let p = c .before .before .before .before .before .pre in omega (arith, p .1, p .2)))
 
--- src/lib.rt:289:9
 next-requires : tie.Need-next-requires Inv-loop μ-loop
 next-requires c κs = c .before .before .before .before .loop .inv .within
 
--- src/lib.rt:284:5
 loop-less : tie.Need-loop-less Inv-loop μ-loop
 loop-less c = falls _ _ (c .before .before .before .before .before .loop .inv .within) _ (c .before .before .before .before .loop-test .taken) _ _ (c .before .left-after .ensures .0) (c .before .left-after .ensures .1) (c .next .ensures .0)
 
--- src/lib.rt:284:5
 loop-again : tie.Need-loop-again Inv-loop μ-loop
 loop-again c = further _ _ (c .before .before .before .before .before .loop .inv .within) _ (c .before .before .before .before .loop-test .taken) _ _ _ (c .before .before .before .before .before .loop .inv) _ (c .before .before .before .is-met .ensures) (c .before .before .if1 .left) _ _ (c .before .left-after .ensures .0) (c .before .left-after .ensures .1) (c .next .ensures .0)
 
--- src/lib.rt:278:1
 returns-2 : tie.Need-returns-2 Inv-loop μ-loop
 returns-2 c = done _ _ _ _ _ _ (c .before .loop .inv) (let z = c .loop-test .left in omega arith)
 

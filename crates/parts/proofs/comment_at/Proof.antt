@@ -2,19 +2,15 @@ use borrow.Author.Needs.{needs}
 use Rattle.parts.proofs.comment_at.Statement.{statement}
 use Rattle.parts.proofs.comment_at.Tie as tie
 
--- src/lib.rt:88:9
 text-of-requires : tie.Need-text-of-requires
 text-of-requires c κs = search needs
 
--- src/lib.rt:89:5
 comment-line-requires : tie.Need-comment-line-requires
 comment-line-requires c κs = search needs
 
--- src/lib.rt:77:1
 same-length : tie.Need-same-length
 same-length c = search needs
 
--- src/lib.rt:77:1
 returns : tie.Need-returns
 returns c = rw (← (c .before .before .before .before .text-of .ensures)) ((c .before .before .comment-line .ensures))
 

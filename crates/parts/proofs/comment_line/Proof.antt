@@ -5,23 +5,18 @@ use borrow.Author.Needs.{needs}
 use Rattle.parts.proofs.comment_line.Statement.{statement}
 use Rattle.parts.proofs.comment_line.Tie as tie
 
--- src/lib.rt:39:9
 spaces-requires : tie.Need-spaces-requires
 spaces-requires c κs = search needs
 
--- src/lib.rt:40:9
 hashed-requires : tie.Need-hashed-requires
 hashed-requires c κs = search needs
 
--- src/lib.rt:41:5
 byte-requires : tie.Need-byte-requires
 byte-requires c κs = search needs
 
--- src/lib.rt:35:1
 same-length : tie.Need-same-length
 same-length c = search needs
 
--- src/lib.rt:35:1
 returns : tie.Need-returns
 unfolding commentLine indent newline
 returns c = both _ _ (of-puts space _ (c .before .before .before .before .before .before .before .before .before .before .spaces .ensures)) (both _ _ (of-puts remark _ (c .before .before .before .before .before .before .hashed .ensures)) (of-byte space _ (c .before .before .byte .ensures)))

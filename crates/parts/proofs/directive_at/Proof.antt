@@ -2,19 +2,15 @@ use borrow.Author.Needs.{needs}
 use Rattle.parts.proofs.directive_at.Statement.{statement}
 use Rattle.parts.proofs.directive_at.Tie as tie
 
--- src/lib.rt:116:9
 text-of-requires : tie.Need-text-of-requires
 text-of-requires c κs = search needs
 
--- src/lib.rt:117:5
 percent-line-requires : tie.Need-percent-line-requires
 percent-line-requires c κs = search needs
 
--- src/lib.rt:112:1
 same-length : tie.Need-same-length
 same-length c = search needs
 
--- src/lib.rt:112:1
 returns : tie.Need-returns
 returns c = rw (← (c .before .before .before .before .text-of .ensures)) ((c .before .before .percent-line .ensures))
 

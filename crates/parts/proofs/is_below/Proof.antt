@@ -3,28 +3,22 @@ use borrow.Author.Needs.{needs}
 use Rattle.parts.proofs.is_below.Statement.{statement}
 use Rattle.parts.proofs.is_below.Tie as tie
 
--- src/lib.rt:67:29
 add-t6 : tie.Need-add-t6
 add-t6 c = search needs
 
--- src/lib.rt:68:9
 heading-at-requires : tie.Need-heading-at-requires
 heading-at-requires c κs = search needs
 
--- src/lib.rt:71:24
 enum-told : tie.Need-enum-told
 enum-told c = search needs
 
--- src/lib.rt:72:24
 enum-told-2 : tie.Need-enum-told-2
 enum-told-2 c = search needs
 
--- src/lib.rt:63:1
 returns : tie.Need-returns
 unfolding isBelow
 returns c = rw (← c .before .before .heading-at .ensures, c .enum-told .given .1)
 
--- src/lib.rt:63:1
 returns-2 : tie.Need-returns-2
 unfolding isBelow
 returns-2 c = rw (← c .before .before .heading-at .ensures, c .enum-told2 .given .1)

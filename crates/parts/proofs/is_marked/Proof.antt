@@ -3,11 +3,9 @@ use borrow.Author.Needs.{needs}
 use Rattle.parts.proofs.is_marked.Statement.{statement}
 use Rattle.parts.proofs.is_marked.Tie as tie
 
--- src/lib.rt:246:6
 div-result : tie.Need-div-result
 div-result c = search needs
 
--- src/lib.rt:242:1
 returns : tie.Need-returns
 unfolding marked
 returns c = cc

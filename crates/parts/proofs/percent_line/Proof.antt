@@ -7,23 +7,18 @@ use borrow.Author.Needs.{needs}
 use Rattle.parts.proofs.percent_line.Statement.{statement}
 use Rattle.parts.proofs.percent_line.Tie as tie
 
--- src/lib.rt:48:9
 byte-requires : tie.Need-byte-requires
 byte-requires c κs = search needs
 
--- src/lib.rt:49:9
 text-requires : tie.Need-text-requires
 text-requires c κs = search needs
 
--- src/lib.rt:50:5
 byte-requires-2 : tie.Need-byte-requires-2
 byte-requires-2 c κs = search needs
 
--- src/lib.rt:44:1
 same-length : tie.Need-same-length
 same-length c = search needs
 
--- src/lib.rt:44:1
 returns : tie.Need-returns
 unfolding percent newline puts
 returns c = both _ _ (of-puts directive _ ((c .before .before .before .before .before .before .text .ensures) ∙ ap (puts (c .before .before .before .before .before .before .before .before .before .before .before .before .before .before .args .t .now)) (c .before .before .before .before .before .before .before .before .before .before .byte .ensures))) (of-byte space _ (c .before .before .byte2 .ensures))

@@ -8,32 +8,25 @@ use borrow.Author.Needs.{needs}
 use Rattle.parts.proofs.put_above_dash.Statement.{statement}
 use Rattle.parts.proofs.put_above_dash.Tie as tie
 
--- src/lib.rt:228:8
 is-marked-requires : tie.Need-is-marked-requires
 is-marked-requires c κs = search needs
 
--- src/lib.rt:229:9
 put-repeated-requires : tie.Need-put-repeated-requires
 put-repeated-requires c κs = search needs
 
--- src/lib.rt:229:9
 same-length : tie.Need-same-length
 same-length c = search needs
 
--- src/lib.rt:229:9
 returns : tie.Need-returns
 unfolding aboveDash repeated keptOf layoutOf
 returns c = draws-yes _ _ _ (sym (c .before .before .before .before .before .is-marked .ensures) ∙ c .before .before .before .before .if1 .taken) (c .before .before .put-repeated .ensures)
 
--- src/lib.rt:231:5
 put-heads-requires : tie.Need-put-heads-requires
 put-heads-requires c κs = search needs
 
--- src/lib.rt:216:1
 same-length-2 : tie.Need-same-length-2
 same-length-2 c = search needs
 
--- src/lib.rt:216:1
 returns-2 : tie.Need-returns-2
 unfolding aboveDash repeated keptOf layoutOf
 returns-2 c = draws-no _ _ _ (sym (c .before .before .before .before .before .is-marked .ensures) ∙ c .before .before .before .before .if1 .left) (c .before .before .put-heads .ensures)

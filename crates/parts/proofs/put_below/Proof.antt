@@ -7,23 +7,18 @@ use borrow.Author.Needs.{needs}
 use Rattle.parts.proofs.put_below.Statement.{statement}
 use Rattle.parts.proofs.put_below.Tie as tie
 
--- src/lib.rt:427:9
 put-break-requires : tie.Need-put-break-requires
 put-break-requires c κs = search needs
 
--- src/lib.rt:428:9
 put-repeated-requires : tie.Need-put-repeated-requires
 put-repeated-requires c κs = search needs
 
--- src/lib.rt:429:5
 spaces-requires : tie.Need-spaces-requires
 spaces-requires c κs = search needs
 
--- src/lib.rt:415:1
 same-length : tie.Need-same-length
 same-length c = search needs
 
--- src/lib.rt:415:1
 returns : tie.Need-returns
 unfolding belowOpen repeated indent keptOf
 returns c = both _ _ (c .before .before .before .before .before .before .before .before .before .before .put-break .ensures) (both _ _ (c .before .before .before .before .before .before .put-repeated .ensures) (of-puts space _ (c .before .before .spaces .ensures)))

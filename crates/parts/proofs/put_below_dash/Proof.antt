@@ -8,24 +8,19 @@ use borrow.Author.Needs.{needs}
 use Rattle.parts.proofs.put_below_dash.Statement.{statement}
 use Rattle.parts.proofs.put_below_dash.Tie as tie
 
--- src/lib.rt:247:8
 is-marked-requires : tie.Need-is-marked-requires
 is-marked-requires c κs = search needs
 
--- src/lib.rt:248:9
 put-repeated-requires : tie.Need-put-repeated-requires
 put-repeated-requires c κs = search needs
 
--- src/lib.rt:248:9
 same-length : tie.Need-same-length
 same-length c = search needs
 
--- src/lib.rt:248:9
 returns : tie.Need-returns
 unfolding belowDash repeated keptOf layoutOf
 returns c = draws-yes _ _ _ (sym (c .before .before .before .before .before .is-marked .ensures) ∙ c .before .before .before .before .if1 .taken) (c .before .before .put-repeated .ensures)
 
--- src/lib.rt:235:1
 returns-2 : tie.Need-returns-2
 unfolding belowDash repeated keptOf layoutOf
 returns-2 c = draws-no _ _ _ (sym (c .before .is-marked .ensures) ∙ c .if1 .left) stays

@@ -5,19 +5,15 @@ use borrow.Author.Needs.{needs}
 use Rattle.parts.proofs.put_dash_block.Statement.{statement}
 use Rattle.parts.proofs.put_dash_block.Tie as tie
 
--- src/lib.rt:462:9
 put-break-requires : tie.Need-put-break-requires
 put-break-requires c κs = search needs
 
--- src/lib.rt:463:5
 put-below-dash-requires : tie.Need-put-below-dash-requires
 put-below-dash-requires c κs = search needs
 
--- src/lib.rt:450:1
 same-length : tie.Need-same-length
 same-length c = search needs
 
--- src/lib.rt:450:1
 returns : tie.Need-returns
 unfolding dashOpen keptOf
 returns c = both _ _ (c .before .before .before .before .before .before .put-break .ensures) (c .before .before .put-below-dash .ensures)

@@ -4,38 +4,30 @@ use borrow.Author.Needs.{needs}
 use Rattle.parts.proofs.put_directive.Statement.{statement}
 use Rattle.parts.proofs.put_directive.Tie as tie
 
--- src/lib.rt:341:9
 returns : tie.Need-returns
 returns c = no-directive _ _ _ _ (c .if1 .taken)
 
--- src/lib.rt:344:26
 include-in-requires : tie.Need-include-in-requires
 include-in-requires c κs = search needs
 
 words-of-requires : tie.Need-words-of-requires
 words-of-requires c κs = search needs
 
--- src/lib.rt:344:9
 text-requires : tie.Need-text-requires
 text-requires c κs = search needs
 
--- src/lib.rt:345:9
 byte-requires : tie.Need-byte-requires
 byte-requires c κs = search needs
 
--- src/lib.rt:346:18
 words-of-requires-2 : tie.Need-words-of-requires-2
 words-of-requires-2 c κs = search needs
 
--- src/lib.rt:346:5
 text-requires-2 : tie.Need-text-requires-2
 text-requires-2 c κs = omega (arith, c .before .before .before .before .byte .kept .1 .0, c .before .before .before .before .before .before .before .before .text .kept .1 .0, c .before .before .before .before .before .before .before .before .before .before .before .before .before .before .before .before .before .pre)
 
--- src/lib.rt:336:1
 same-length : tie.Need-same-length
 same-length c = search needs
 
--- src/lib.rt:336:1
 returns-2 : tie.Need-returns-2
 returns-2 c = some-directive _ _ _ _ _ _ _ _ _ _ (c .before .before .before .before .before .before .before .before .before .before .before .before .before .before .before .if1 .left) (c .before .before .before .before .before .before .before .before .before .before .before .before .before .before .include-in .ensures) (c .before .before .before .before .before .before .before .before .before .before .before .before .words-of .ensures) (c .before .before .before .words-of2 .ensures) (c .before .before .before .before .before .before .before .before .before .before .before .text .ensures) (c .before .before .before .before .before .before .before .byte .ensures) (c .before .before .text2 .ensures)
 

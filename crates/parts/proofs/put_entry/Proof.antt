@@ -3,87 +3,67 @@ use borrow.Author.Needs.{needs}
 use Rattle.parts.proofs.put_entry.Statement.{statement}
 use Rattle.parts.proofs.put_entry.Tie as tie
 
--- src/lib.rt:133:53
 enum-told : tie.Need-enum-told
 enum-told c = search needs
 
--- src/lib.rt:133:27
 comment-at-requires : tie.Need-comment-at-requires
 comment-at-requires c κs = search needs
 
--- src/lib.rt:134:50
 enum-told-2 : tie.Need-enum-told-2
 enum-told-2 c = search needs
 
--- src/lib.rt:134:26
 above-at-requires : tie.Need-above-at-requires
 above-at-requires c κs = search needs
 
--- src/lib.rt:135:51
 enum-told-3 : tie.Need-enum-told-3
 enum-told-3 c = search needs
 
--- src/lib.rt:135:27
 below-at-requires : tie.Need-below-at-requires
 below-at-requires c κs = search needs
 
--- src/lib.rt:136:53
 enum-told-4 : tie.Need-enum-told-4
 enum-told-4 c = search needs
 
--- src/lib.rt:136:27
 comment-at-requires-2 : tie.Need-comment-at-requires-2
 comment-at-requires-2 c κs = search needs
 
--- src/lib.rt:137:60
 enum-told-5 : tie.Need-enum-told-5
 enum-told-5 c = search needs
 
--- src/lib.rt:137:32
 directive-at-requires : tie.Need-directive-at-requires
 directive-at-requires c κs = search needs
 
--- src/lib.rt:120:1
 same-length : tie.Need-same-length
 same-length c = search needs
 
--- src/lib.rt:120:1
 returns : tie.Need-returns
 unfolding entry
 returns c = rw (c .before .before .before .before .enum-told .given .1) (c .before .before .comment-at .ensures)
 
--- src/lib.rt:120:1
 same-length-2 : tie.Need-same-length-2
 same-length-2 c = search needs
 
--- src/lib.rt:120:1
 returns-2 : tie.Need-returns-2
 unfolding entry
 returns-2 c = rw (c .before .before .before .before .enum-told2 .given .1) (c .before .before .above-at .ensures)
 
--- src/lib.rt:120:1
 same-length-3 : tie.Need-same-length-3
 same-length-3 c = search needs
 
--- src/lib.rt:120:1
 returns-3 : tie.Need-returns-3
 unfolding entry
 returns-3 c = rw (c .before .before .before .before .enum-told3 .given .1) (c .before .before .below-at .ensures)
 
--- src/lib.rt:120:1
 same-length-4 : tie.Need-same-length-4
 same-length-4 c = search needs
 
--- src/lib.rt:120:1
 returns-4 : tie.Need-returns-4
 unfolding entry
 returns-4 c = rw (c .before .before .before .before .enum-told4 .given .1) (c .before .before .comment-at2 .ensures)
 
--- src/lib.rt:120:1
 same-length-5 : tie.Need-same-length-5
 same-length-5 c = search needs
 
--- src/lib.rt:120:1
 returns-5 : tie.Need-returns-5
 unfolding entry
 returns-5 c = rw (c .before .before .before .before .enum-told5 .given .1) (c .before .before .directive-at .ensures)

@@ -5,23 +5,18 @@ use borrow.Author.Needs.{needs}
 use Rattle.parts.proofs.put_include_line.Statement.{statement}
 use Rattle.parts.proofs.put_include_line.Tie as tie
 
--- src/lib.rt:354:9
 put-directive-requires : tie.Need-put-directive-requires
 put-directive-requires c κs = search needs
 
--- src/lib.rt:355:9
 put-remark-requires : tie.Need-put-remark-requires
 put-remark-requires c κs = search needs
 
--- src/lib.rt:356:5
 byte-requires : tie.Need-byte-requires
 byte-requires c κs = search needs
 
--- src/lib.rt:350:1
 same-length : tie.Need-same-length
 same-length c = search needs
 
--- src/lib.rt:350:1
 returns : tie.Need-returns
 unfolding directed newline
 returns c = both _ _ (c .before .before .before .before .before .before .before .before .before .before .put-directive .ensures) (both _ _ (c .before .before .before .before .before .before .put-remark .ensures) (of-byte space _ (c .before .before .byte .ensures)))

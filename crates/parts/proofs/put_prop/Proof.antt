@@ -3,34 +3,27 @@ use borrow.Author.Needs.{needs}
 use Rattle.parts.proofs.put_prop.Statement.{statement}
 use Rattle.parts.proofs.put_prop.Tie as tie
 
--- src/lib.rt:199:9
 returns : tie.Need-returns
 returns c = no-prop _ _ _ _ _ _ (c .if1 .taken)
 
--- src/lib.rt:201:9
 text-requires : tie.Need-text-requires
 text-requires c κs = search needs
 
--- src/lib.rt:202:27
 text-in-requires : tie.Need-text-in-requires
 text-in-requires c κs = search needs
 
 words-of-requires : tie.Need-words-of-requires
 words-of-requires c κs = search needs
 
--- src/lib.rt:202:9
 text-requires-2 : tie.Need-text-requires-2
 text-requires-2 c κs = search needs
 
--- src/lib.rt:203:5
 text-requires-3 : tie.Need-text-requires-3
 text-requires-3 c κs = search needs
 
--- src/lib.rt:194:1
 same-length : tie.Need-same-length
 same-length c = search needs
 
--- src/lib.rt:194:1
 returns-2 : tie.Need-returns-2
 returns-2 c = some-prop _ _ _ _ _ _ _ _ _ _ _ (c .before .before .before .before .before .before .before .before .before .before .before .before .before .before .if1 .left) (c .before .before .before .before .before .before .before .before .text-in .ensures) (c .before .before .before .before .before .before .before .words-of .ensures) (c .before .before .before .before .before .before .before .before .before .before .before .before .text .ensures) (c .before .before .before .before .before .before .text2 .ensures) (c .before .before .text3 .ensures)
 

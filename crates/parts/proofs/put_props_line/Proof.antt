@@ -9,40 +9,31 @@ use borrow.Author.Needs.{needs}
 use Rattle.parts.proofs.put_props_line.Statement.{statement}
 use Rattle.parts.proofs.put_props_line.Tie as tie
 
--- src/lib.rt:310:8
 is-either-requires : tie.Need-is-either-requires
 is-either-requires c κs = search needs
 
--- src/lib.rt:311:13
 put-tag-first-requires : tie.Need-put-tag-first-requires
 put-tag-first-requires c κs = search needs
 
--- src/lib.rt:312:42
 slice-aggregate-put-prop : tie.Need-slice-aggregate-put-prop
 slice-aggregate-put-prop c = search needs
 
--- src/lib.rt:312:61
 slice-aggregate-put-prop-2 : tie.Need-slice-aggregate-put-prop-2
 slice-aggregate-put-prop-2 c = search needs
 
--- src/lib.rt:312:13
 put-prop-requires : tie.Need-put-prop-requires
 put-prop-requires c κs = search needs
 
--- src/lib.rt:313:9
 byte-requires : tie.Need-byte-requires
 byte-requires c κs = search needs
 
--- src/lib.rt:313:9
 same-length : tie.Need-same-length
 same-length c = search needs
 
--- src/lib.rt:313:9
 returns : tie.Need-returns
 unfolding propsLine newline tagFirst broughtOf
 returns c = draws-yes _ _ _ (has-props-is (c .before .before .before .before .before .before .before .before .before .before .before .before .before .before .before .before .before .before .before .args .deck .now) (c .before .before .before .before .before .before .before .before .before .before .before .before .before .before .before .before .before .before .before .args .pool .now) (c .before .before .before .before .before .before .before .before .before .before .before .before .before .before .before .before .before .before .before .args .lead) ∙ sym (c .before .before .before .before .before .before .before .before .before .before .before .before .before .before .before .is-either .ensures) ∙ c .before .before .before .before .before .before .before .before .before .before .before .before .before .before .if1 .taken) (both _ _ (c .before .before .before .before .before .before .before .before .before .before .before .before .put-tag-first .ensures) (both _ _ (c .before .before .before .before .before .before .put-prop .ensures) (of-byte space _ (c .before .before .byte .ensures))))
 
--- src/lib.rt:306:1
 returns-2 : tie.Need-returns-2
 unfolding propsLine newline tagFirst broughtOf
 returns-2 c = draws-no _ _ _ (has-props-is (c .before .before .before .before .before .args .deck .now) (c .before .before .before .before .before .args .pool .now) (c .before .before .before .before .before .args .lead) ∙ sym (c .before .is-either .ensures) ∙ c .if1 .left) stays

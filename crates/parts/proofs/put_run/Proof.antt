@@ -17,39 +17,30 @@ Inv-loop deck pool out₀ e indent step u₀ here₀ left₀ out u here left = L
 abbrev μ-loop : tie.MeasureT-loop
 μ-loop deck pool out₀ e indent step u₀ here₀ left₀ out u here left = left
 
--- src/lib.rt:167:9
 stride-of-requires : tie.Need-stride-of-requires Inv-loop μ-loop
 stride-of-requires c κs = search needs
 
--- src/lib.rt:171:5
 loop-holds : tie.Need-loop-holds Inv-loop μ-loop
 loop-holds c = (record { same = λ s. refl }, refl, (let p = c .before .before .before .before .before .pre in omega (arith, p .1, p .2)), c .before .stride-of .ensures .0, c .before .stride-of .ensures .1)
 
--- src/lib.rt:172:9
 put-entry-requires : tie.Need-put-entry-requires Inv-loop μ-loop
 put-entry-requires c κs = let i = c .before .before .loop .inv in let p = c .before .before .before .before .before .before .before .before .pre .0 in (omega (arith, p, i .1), omega (arith, i .2))
 
--- src/lib.rt:173:29
 add-t15 : tie.Need-add-t15 Inv-loop μ-loop
 add-t15 c = search needs
 
--- src/lib.rt:174:9
 sub-left : tie.Need-sub-left Inv-loop μ-loop
 sub-left c = search needs
 
--- src/lib.rt:171:5
 loop-less : tie.Need-loop-less Inv-loop μ-loop
 loop-less c = search needs
 
--- src/lib.rt:171:5
 loop-again : tie.Need-loop-again Inv-loop μ-loop
 loop-again c = (turn _ _ _ _ _ _ _ _ _ _ _ (c .before .before .before .before .before .loop-test .taken) (c .before .before .before .before .before .before .loop .inv .3) (c .before .before .before .put-entry .ensures) (c .before .before .before .before .before .before .loop .inv .0), c .before .before .before .put-entry .kept .1 .1 .1 .0 ∙ c .before .before .before .before .before .before .loop .inv .1, (let i = c .before .before .before .before .before .before .loop .inv in omega (arith, i .2, i .4, c .before .before .before .before .before .loop-test .taken)), c .before .before .before .before .before .before .loop .inv .3, c .before .before .before .before .before .before .loop .inv .4)
 
--- src/lib.rt:155:1
 same-length : tie.Need-same-length Inv-loop μ-loop
 same-length c = c .before .loop .inv .1
 
--- src/lib.rt:155:1
 returns : tie.Need-returns Inv-loop μ-loop
 returns c = done _ _ _ _ _ _ _ _ (let z = c .loop-test .left in omega arith) (c .before .loop .inv .0)
 

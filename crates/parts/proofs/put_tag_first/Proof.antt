@@ -3,43 +3,33 @@ use borrow.Author.Needs.{needs}
 use Rattle.parts.proofs.put_tag_first.Statement.{statement}
 use Rattle.parts.proofs.put_tag_first.Tie as tie
 
--- src/lib.rt:300:39
 slice-aggregate-put-prop : tie.Need-slice-aggregate-put-prop
 slice-aggregate-put-prop c = search needs
 
--- src/lib.rt:300:54
 slice-aggregate-put-prop-2 : tie.Need-slice-aggregate-put-prop-2
 slice-aggregate-put-prop-2 c = search needs
 
--- src/lib.rt:300:9
 put-prop-requires : tie.Need-put-prop-requires
 put-prop-requires c κs = search needs
 
--- src/lib.rt:300:9
 same-length : tie.Need-same-length
 same-length c = search needs
 
--- src/lib.rt:300:9
 returns : tie.Need-returns
 returns c = alone _ _ _ _ _ (c .before .before .before .before .before .before .if1 .taken) (c .before .before .put-prop .ensures)
 
--- src/lib.rt:302:28
 slice-aggregate-put-prop-3 : tie.Need-slice-aggregate-put-prop-3
 slice-aggregate-put-prop-3 c = search needs
 
--- src/lib.rt:302:43
 slice-aggregate-put-prop-4 : tie.Need-slice-aggregate-put-prop-4
 slice-aggregate-put-prop-4 c = search needs
 
--- src/lib.rt:302:5
 put-prop-requires-2 : tie.Need-put-prop-requires-2
 put-prop-requires-2 c κs = search needs
 
--- src/lib.rt:294:1
 same-length-2 : tie.Need-same-length-2
 same-length-2 c = search needs
 
--- src/lib.rt:294:1
 returns-2 : tie.Need-returns-2
 returns-2 c = followed _ _ _ _ _ (c .before .before .before .before .before .before .if1 .left) (c .before .before .put-prop2 .ensures)
 

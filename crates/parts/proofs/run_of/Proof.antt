@@ -3,47 +3,37 @@ use borrow.Author.Needs.{needs}
 use Rattle.parts.proofs.run_of.Statement.{statement}
 use Rattle.parts.proofs.run_of.Tie as tie
 
--- src/lib.rt:183:27
 enum-told : tie.Need-enum-told
 enum-told c = search needs
 
--- src/lib.rt:184:26
 enum-told-2 : tie.Need-enum-told-2
 enum-told-2 c = search needs
 
--- src/lib.rt:185:27
 enum-told-3 : tie.Need-enum-told-3
 enum-told-3 c = search needs
 
--- src/lib.rt:186:27
 enum-told-4 : tie.Need-enum-told-4
 enum-told-4 c = search needs
 
--- src/lib.rt:187:32
 enum-told-5 : tie.Need-enum-told-5
 enum-told-5 c = search needs
 
--- src/lib.rt:179:1
 returns : tie.Need-returns
 unfolding runOf
 returns c = rw (c .before .enum-told .given .1)
 
--- src/lib.rt:179:1
 returns-2 : tie.Need-returns-2
 unfolding runOf
 returns-2 c = rw (c .before .enum-told2 .given .1)
 
--- src/lib.rt:179:1
 returns-3 : tie.Need-returns-3
 unfolding runOf
 returns-3 c = rw (c .before .enum-told3 .given .1)
 
--- src/lib.rt:179:1
 returns-4 : tie.Need-returns-4
 unfolding runOf
 returns-4 c = rw (c .before .enum-told4 .given .1)
 
--- src/lib.rt:179:1
 returns-5 : tie.Need-returns-5
 unfolding runOf
 returns-5 c = rw (c .before .enum-told5 .given .1)

@@ -4,47 +4,37 @@ use borrow.Author.Needs.{needs}
 use Rattle.parts.proofs.stride_of.Statement.{statement}
 use Rattle.parts.proofs.stride_of.Tie as tie
 
--- src/lib.rt:146:27
 enum-told : tie.Need-enum-told
 enum-told c = search needs
 
--- src/lib.rt:147:27
 enum-told-2 : tie.Need-enum-told-2
 enum-told-2 c = search needs
 
--- src/lib.rt:148:27
 enum-told-3 : tie.Need-enum-told-3
 enum-told-3 c = search needs
 
--- src/lib.rt:149:27
 enum-told-4 : tie.Need-enum-told-4
 enum-told-4 c = search needs
 
--- src/lib.rt:150:32
 enum-told-5 : tie.Need-enum-told-5
 enum-told-5 c = search needs
 
--- src/lib.rt:142:1
 returns : tie.Need-returns
 unfolding stride
 returns c = (cc, omega arith)
 
--- src/lib.rt:142:1
 returns-2 : tie.Need-returns-2
 unfolding stride
 returns-2 c = (cc, omega arith)
 
--- src/lib.rt:142:1
 returns-3 : tie.Need-returns-3
 unfolding stride
 returns-3 c = (cc, omega arith)
 
--- src/lib.rt:142:1
 returns-4 : tie.Need-returns-4
 unfolding stride
 returns-4 c = (cc, omega arith)
 
--- src/lib.rt:142:1
 returns-5 : tie.Need-returns-5
 unfolding stride
 returns-5 c = (cc, omega arith)

@@ -3,19 +3,15 @@ use borrow.Author.Needs.{needs}
 use Rattle.parts.proofs.text_of.Statement.{statement}
 use Rattle.parts.proofs.text_of.Tie as tie
 
--- src/lib.rt:58:29
 add-t5 : tie.Need-add-t5
 add-t5 c = search needs
 
--- src/lib.rt:59:26
 text-only-requires : tie.Need-text-only-requires
 text-only-requires c κs = search needs
 
--- src/lib.rt:59:5
 words-of-requires : tie.Need-words-of-requires
 words-of-requires c κs = search needs
 
--- src/lib.rt:54:1
 returns : tie.Need-returns
 unfolding textOf
 returns c = cc

@@ -14,31 +14,24 @@ Inv-loop tracks column most b n c₀ left₀ c left = columnOver tracks most c (
 abbrev μ-loop : tie.MeasureT-loop
 μ-loop tracks column most b n c₀ left₀ c left = left
 
--- src/lib.rt:80:9
 returns : tie.Need-returns Inv-loop μ-loop
 returns c = no-column _ _ _ _ (c .if1 .taken)
 
--- src/lib.rt:84:5
 loop-holds : tie.Need-loop-holds Inv-loop μ-loop
 loop-holds c = search needs
 
--- src/lib.rt:85:9
 next-column-requires : tie.Need-next-column-requires Inv-loop μ-loop
 next-column-requires c κs = search needs
 
--- src/lib.rt:86:9
 sub-left : tie.Need-sub-left Inv-loop μ-loop
 sub-left c = search needs
 
--- src/lib.rt:84:5
 loop-less : tie.Need-loop-less Inv-loop μ-loop
 loop-less c = search needs
 
--- src/lib.rt:84:5
 loop-again : tie.Need-loop-again Inv-loop μ-loop
 loop-again c = column-again _ _ _ _ _ _ _ (c .before .before .before .if1 .left) (c .before .loop-test .taken) (c .next-column .ensures) (c .before .before .loop .inv)
 
--- src/lib.rt:75:1
 returns-2 : tie.Need-returns-2 Inv-loop μ-loop
 unfolding columnOver
 returns-2 c = let e : c .before .loop .left ≡ 0 = omega (arith, c .loop-test .left) in rw e at (c .before .loop .inv)

@@ -14,35 +14,27 @@ Inv-loop tracks column most t c₀ i₀ c i = (columnOver tracks most c (drop i 
 abbrev μ-loop : tie.MeasureT-loop
 μ-loop tracks column most t c₀ i₀ c i = length t - i
 
--- src/lib.rt:63:9
 returns : tie.Need-returns Inv-loop μ-loop
 returns c = no-column _ _ _ _ (c .if1 .taken)
 
--- src/lib.rt:67:5
 loop-holds : tie.Need-loop-holds Inv-loop μ-loop
 loop-holds c = search needs
 
--- src/lib.rt:68:34
 shared-slice-read-next-column : tie.Need-shared-slice-read-next-column Inv-loop μ-loop
 shared-slice-read-next-column c = search needs
 
--- src/lib.rt:68:9
 next-column-requires : tie.Need-next-column-requires Inv-loop μ-loop
 next-column-requires c κs = search needs
 
--- src/lib.rt:69:9
 add-i : tie.Need-add-i Inv-loop μ-loop
 add-i c = search needs
 
--- src/lib.rt:67:5
 loop-less : tie.Need-loop-less Inv-loop μ-loop
 loop-less c = search needs
 
--- src/lib.rt:67:5
 loop-again : tie.Need-loop-again Inv-loop μ-loop
 loop-again c = (column-on _ _ _ _ _ _ _ (c .before .before .before .before .if1 .left) (c .before .before .loop-test .taken) (c .next-column .ensures) (c .before .before .before .loop .inv .0), search needs)
 
--- src/lib.rt:58:1
 returns-2 : tie.Need-returns-2 Inv-loop μ-loop
 unfolding columnOver
 returns-2 c = rw (drop-of-length-le _ (c .loop-test .left)) at (c .before .loop .inv .0)

@@ -15,39 +15,30 @@ Inv-loop out₀ at t i₀ out i = (sets out (at + i) (drop i t) ≡ sets out₀ 
 abbrev μ-loop : tie.MeasureT-loop
 μ-loop out₀ at t i₀ out i = length t - i
 
--- src/lib.rt:110:5
 loop-holds : tie.Need-loop-holds Inv-loop μ-loop
 loop-holds c = (store-start (c .args .out .now) (c .args .at) (c .args .t .now), search needs, refl)
 
--- src/lib.rt:111:23
 shared-slice-read-out : tie.Need-shared-slice-read-out Inv-loop μ-loop
 shared-slice-read-out c = search needs
 
--- src/lib.rt:111:13
 add-out : tie.Need-add-out Inv-loop μ-loop
 add-out c = let h = c .before .loop-test .taken in let p = (c .before .before .before .pre) in omega arith
 
--- src/lib.rt:111:9
 slice-write-out : tie.Need-slice-write-out Inv-loop μ-loop
 slice-write-out c = let e = c .before .before .loop .inv .2 in let h = c .before .loop-test .taken in let p = (c .before .before .before .pre) in omega arith
 
--- src/lib.rt:112:9
 add-i : tie.Need-add-i Inv-loop μ-loop
 add-i c = search needs
 
--- src/lib.rt:110:5
 loop-less : tie.Need-loop-less Inv-loop μ-loop
 loop-less c = search needs
 
--- src/lib.rt:110:5
 loop-again : tie.Need-loop-again Inv-loop μ-loop
 loop-again c = (stored _ _ _ _ _ _ (c .before .loop-test .taken) refl (c .before .before .loop .inv .0), search needs, length-set (c .before .before .loop .out) _ _ ∙ c .before .before .loop .inv .2)
 
--- src/lib.rt:105:1
 same-length : tie.Need-same-length Inv-loop μ-loop
 same-length c = c .before .loop .inv .2
 
--- src/lib.rt:105:1
 returns : tie.Need-returns Inv-loop μ-loop
 returns c = rw (drop-of-length-le _ (c .loop-test .left)) at (c .before .loop .inv .0)
 

@@ -15,35 +15,27 @@ Inv-loop out₀ at b n i₀ out i = (sets out (at + i) (replicate (n - i) b) ≡
 abbrev μ-loop : tie.MeasureT-loop
 μ-loop out₀ at b n i₀ out i = n - i
 
--- src/lib.rt:122:5
 loop-holds : tie.Need-loop-holds Inv-loop μ-loop
 loop-holds c = (fill-start (c .args .out .now) (c .args .at) (c .args .b) (c .args .n), search needs, refl)
 
--- src/lib.rt:123:13
 add-out : tie.Need-add-out Inv-loop μ-loop
 add-out c = let h = c .loop-test .taken in let p = (c .before .before .pre) in omega arith
 
--- src/lib.rt:123:9
 slice-write-out : tie.Need-slice-write-out Inv-loop μ-loop
 slice-write-out c = let e = c .before .loop .inv .2 in let h = c .loop-test .taken in let p = (c .before .before .pre) in omega arith
 
--- src/lib.rt:124:9
 add-i : tie.Need-add-i Inv-loop μ-loop
 add-i c = search needs
 
--- src/lib.rt:122:5
 loop-less : tie.Need-loop-less Inv-loop μ-loop
 loop-less c = search needs
 
--- src/lib.rt:122:5
 loop-again : tie.Need-loop-again Inv-loop μ-loop
 loop-again c = (filled _ _ _ _ _ _ _ (c .loop-test .taken) refl (c .before .loop .inv .0), search needs, length-set (c .before .loop .out) _ _ ∙ c .before .loop .inv .2)
 
--- src/lib.rt:117:1
 same-length : tie.Need-same-length Inv-loop μ-loop
 same-length c = c .before .loop .inv .2
 
--- src/lib.rt:117:1
 returns : tie.Need-returns Inv-loop μ-loop
 returns c = let e : c .before .before .args .n - c .before .loop .i ≡ 0 = omega (arith, c .loop-test .left) in rw e at (c .before .loop .inv .0)
 

@@ -4,15 +4,12 @@ use borrow.Author.Needs.{needs}
 use Rattle.pen.proofs.next_column.Statement.{statement}
 use Rattle.pen.proofs.next_column.Tie as tie
 
--- src/lib.rt:52:9
 returns : tie.Need-returns
 returns c = rw (eq-eqb _ _ (c .if1 .taken))
 
--- src/lib.rt:54:5
 up-to-requires : tie.Need-up-to-requires
 up-to-requires c κs = search needs
 
--- src/lib.rt:47:1
 returns-2 : tie.Need-returns-2
 returns-2 c = rw (ne-eqb _ _ (c .before .if1 .left)) (c .up-to .ensures)
 

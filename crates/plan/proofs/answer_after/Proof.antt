@@ -4,21 +4,17 @@ use borrow.Author.Needs.{needs}
 use Rattle.plan.proofs.answer_after.Statement.{statement}
 use Rattle.plan.proofs.answer_after.Tie as tie
 
--- src/lib.rt:99:9
 returns : tie.Need-returns
 unfolding answerAfter
 returns c = rw (ne-eqb _ _ (c .before .if1 .taken))
 
--- src/lib.rt:102:9
 refuse-requires : tie.Need-refuse-requires
 refuse-requires c κs = search needs
 
--- src/lib.rt:102:9
 returns-2 : tie.Need-returns-2
 unfolding answerAfter
 returns-2 c = rw (eq-eqb _ _ (c .before .before .before .if1 .left), lt-ltb _ _ (c .before .if2 .taken)) (c .refuse .ensures)
 
--- src/lib.rt:95:1
 returns-3 : tie.Need-returns-3
 unfolding answerAfter
 returns-3 c = rw (eq-eqb _ _ (c .before .before .if1 .left), le-ltb _ _ (c .if2 .left))

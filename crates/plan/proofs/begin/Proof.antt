@@ -5,36 +5,28 @@ use borrow.Author.Needs.{needs}
 use Rattle.plan.proofs.begin.Statement.{statement}
 use Rattle.plan.proofs.begin.Tie as tie
 
--- src/lib.rt:74:9
 plain-requires : tie.Need-plain-requires
 plain-requires c κs = search needs
 
--- src/lib.rt:75:9
 admit-requires : tie.Need-admit-requires
 admit-requires c κs = search needs
 
--- src/lib.rt:77:43
 enum-told : tie.Need-enum-told
 enum-told c = search needs
 
--- src/lib.rt:77:43
 count-requires : tie.Need-count-requires
 count-requires c κs = deck-small _ _ _ _ _ _ _ (c .before .before .admit .ensures) (c .enum-told .given .1)
 
--- src/lib.rt:78:28
 enum-known-verdict : tie.Need-enum-known-verdict
 enum-known-verdict c = search needs
 
--- src/lib.rt:78:47
 stop-requires : tie.Need-stop-requires
 stop-requires c κs = search needs
 
--- src/lib.rt:71:1
 returns : tie.Need-returns
 unfolding planOf planned
 returns c = (rw (← c .before .before .before .before .plain .ensures, ← c .before .before .before .admit .ensures, c .before .enum-told .given .1) (c .count .ensures .told _), c .count .ensures .few)
 
--- src/lib.rt:71:1
 returns-2 : tie.Need-returns-2
 unfolding planOf planned early
 returns-2 c = (rw (← c .before .before .before .before .before .plain .ensures, ← c .before .before .before .before .admit .ensures, c .before .before .verdict .given .1) (c .stop .ensures), rw (c .stop .ensures) (omega arith))

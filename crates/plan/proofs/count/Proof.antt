@@ -6,24 +6,19 @@ use borrow.Author.Needs.{needs}
 use Rattle.plan.proofs.count.Statement.{statement}
 use Rattle.plan.proofs.count.Tie as tie
 
--- src/lib.rt:52:9
 count-all-requires : tie.Need-count-all-requires
 count-all-requires c κs = search needs
 
--- src/lib.rt:54:9
 stop-requires : tie.Need-stop-requires
 stop-requires c κs = search needs
 
--- src/lib.rt:54:9
 returns : tie.Need-returns
 unfolding counted collect early
 returns c = record { told = λ pool. rw (← c .before .before .count-all .ensures .told pool, lt-ltb _ _ (c .before .if1 .taken)) (c .stop .ensures); few = rw (c .stop .ensures) (omega arith) }
 
--- src/lib.rt:56:9
 refuse-requires : tie.Need-refuse-requires
 refuse-requires c κs = search needs
 
--- src/lib.rt:48:1
 returns-2 : tie.Need-returns-2
 unfolding counted collect onward front
 returns-2 c = record { told = λ pool. rw (← c .before .before .count-all .ensures .told pool, le-ltb _ _ (c .before .if1 .left), c .refuse .ensures); few = c .before .if1 .left }

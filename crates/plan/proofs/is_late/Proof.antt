@@ -3,17 +3,14 @@ use Rattle.plan.specs.Plan.{isLate}
 use Rattle.plan.proofs.is_late.Statement.{statement}
 use Rattle.plan.proofs.is_late.Tie as tie
 
--- src/lib.rt:87:9
 returns : tie.Need-returns
 unfolding isLate
 returns c = rw (eq-eqb _ _ (c .if1 .taken))
 
--- src/lib.rt:90:9
 returns-2 : tie.Need-returns-2
 unfolding isLate
 returns-2 c = rw (ne-eqb _ _ (c .before .before .before .if1 .left), eq-eqb _ _ (c .before .if2 .taken))
 
--- src/lib.rt:83:1
 returns-3 : tie.Need-returns-3
 unfolding isLate
 returns-3 c = rw (ne-eqb _ _ (c .before .before .if1 .left), ne-eqb _ _ (c .if2 .left))

@@ -3,7 +3,6 @@ use Rattle.plan.specs.Plan.{nowhere}
 use Rattle.plan.proofs.zeros.Statement.{statement}
 use Rattle.plan.proofs.zeros.Tie as tie
 
--- src/lib.rt:23:1
 returns : tie.Need-returns
 unfolding nowhere
 returns c = refl

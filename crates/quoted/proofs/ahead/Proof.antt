@@ -17,31 +17,24 @@ Inv-loop t from single g₀ g = (g .n + aheadOf (quoteBy single) (λ b. 1) 0 (g 
 abbrev μ-loop : tie.MeasureT-loop
 μ-loop t from single g₀ g = length t - g .at
 
--- src/lib.rt:399:5
 loop-holds : tie.Need-loop-holds Inv-loop μ-loop
 loop-holds c = search needs
 
--- src/lib.rt:401:12
 breakable-at-requires : tie.Need-breakable-at-requires Inv-loop μ-loop
 breakable-at-requires c κs = search needs
 
--- src/lib.rt:402:13
 returns : tie.Need-returns Inv-loop μ-loop
 returns c = (measured-stop _ _ _ _ (c .before .before .before .before .before .before .args .t .now) _ (c .before .before .if1 .taken) (c .before .before .before .before .loop .inv .0) (sym (c .before .breakable-at .ensures) ∙ c .if2 .taken), let a = c .before .before .before .before .loop .inv .1 in let b = c .before .before .if1 .taken in omega arith)
 
--- src/lib.rt:404:9
 scan-turn-requires : tie.Need-scan-turn-requires Inv-loop μ-loop
 scan-turn-requires c κs = ((c .before .before .if1 .taken, c .before .before .before .before .before .before .pre .1, (let a = c .before .before .before .before .loop .inv .1 in let b = c .before .before .if1 .taken in let p = (c .before .before .before .before .before .before .pre) in omega arith)), sym (c .before .breakable-at .ensures) ∙ c .if2 .left)
 
--- src/lib.rt:399:5
 loop-less : tie.Need-loop-less Inv-loop μ-loop
 loop-less c = let h = c .scan-turn .ensures .on in let t = c .before .before .before .if1 .taken in omega arith
 
--- src/lib.rt:399:5
 loop-again : tie.Need-loop-again Inv-loop μ-loop
 loop-again c = (c .scan-turn .ensures .sum ∙ c .before .before .before .before .before .loop .inv .0, (let a = c .before .before .before .before .before .loop .inv .1 in let b = c .scan-turn .ensures .grows in omega arith), c .scan-turn .ensures .upto)
 
--- src/lib.rt:390:1
 returns-2 : tie.Need-returns-2 Inv-loop μ-loop
 returns-2 c = (measured-end _ _ _ _ (c .before .before .before .before .args .t .now) _ (c .before .before .loop .inv .0) (c .if1 .left), let a = c .before .before .loop .inv .1 in let b = c .before .before .loop .inv .2 in omega arith)
 

@@ -5,47 +5,36 @@ use borrow.Author.Needs.{needs}
 use Rattle.quoted.proofs.body_turn.Statement.{statement}
 use Rattle.quoted.proofs.body_turn.Tie as tie
 
--- src/lib.rt:302:27
 quote-of-requires : tie.Need-quote-of-requires
 quote-of-requires c κs = search needs
 
--- src/lib.rt:302:9
 run-end-requires : tie.Need-run-end-requires
 run-end-requires c κs = search needs
 
--- src/lib.rt:304:9
 piece-turn-requires : tie.Need-piece-turn-requires
 piece-turn-requires c κs = search needs
 
--- src/lib.rt:304:9
 same-length : tie.Need-same-length
 same-length c = search needs
 
--- src/lib.rt:304:9
 returns : tie.Need-returns
 returns c = search needs
 
--- src/lib.rt:307:24
 sub-text : tie.Need-sub-text
 sub-text c = search needs
 
--- src/lib.rt:307:24
 part-text-start : tie.Need-part-text-start
 part-text-start c = search needs
 
--- src/lib.rt:307:24
 part-text-end : tie.Need-part-text-end
 part-text-end c = search needs
 
--- src/lib.rt:307:12
 text-requires : tie.Need-text-requires
 text-requires c κs = search needs
 
--- src/lib.rt:298:1
 same-length-2 : tie.Need-same-length-2
 same-length-2 c = search needs
 
--- src/lib.rt:298:1
 returns-2 : tie.Need-returns-2
 returns-2 c = record { same = run-written _ _ (c .before .before .before .before .before .before .before .before .before .before .args .t .now) (c .before .before .before .before .before .before .before .before .before .before .args .i) (c .before .before .before .before .before .before .run-end .result) _ _ (c .before .before .before .before .before .before .run-end .ensures) (c .before .before .text .ensures); on = let h = c .before .before .before .before .before .before .run-end .ensures .on in let n = c .before .before .before .before .before .if1 .left in omega arith }
 

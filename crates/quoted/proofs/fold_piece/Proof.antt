@@ -6,43 +6,33 @@ use borrow.Author.Needs.{needs}
 use Rattle.quoted.proofs.fold_piece.Statement.{statement}
 use Rattle.quoted.proofs.fold_piece.Tie as tie
 
--- src/lib.rt:450:9
 piece-at-requires : tie.Need-piece-at-requires
 piece-at-requires c κs = search needs
 
--- src/lib.rt:452:9
 put-piece-requires : tie.Need-put-piece-requires
 put-piece-requires c κs = search needs
 
--- src/lib.rt:455:22
 columns-requires : tie.Need-columns-requires
 columns-requires c κs = search needs
 
--- src/lib.rt:455:14
 add-t13 : tie.Need-add-t13
 add-t13 c = search needs
 
--- src/lib.rt:456:13
 add-t14 : tie.Need-add-t14
 add-t14 c = search needs
 
--- src/lib.rt:456:21
 others-requires : tie.Need-others-requires
 others-requires c κs = search needs
 
--- src/lib.rt:456:13
 add-t16 : tie.Need-add-t16
 add-t16 c = let h = (c .before .before .before .before .before .before .before .before .before .before .before .pre .0 .inside) in let l = (c .before .before .before .before .before .before .before .before .before .before .before .pre .0 .short) in omega (arith, c .others .ensures, beside-few (c .before .before .before .before .before .before .before .before .piece-at .result))
 
--- src/lib.rt:457:16
 shared-slice-read-t18 : tie.Need-shared-slice-read-t18
 shared-slice-read-t18 c = search needs
 
--- src/lib.rt:445:1
 same-length : tie.Need-same-length
 same-length c = search needs
 
--- src/lib.rt:445:1
 returns : tie.Need-returns
 returns c = record { same = fold-on _ (c .before .before .before .before .before .before .before .before .before .before .before .before .args .t .now) (c .before .before .before .before .before .before .before .before .before .before .before .before .args .i) (c .before .before .before .before .before .before .before .before .before .before .before .before .pre .0 .inside) _ _ _ _ _ _ _ _ (c .before .before .before .before .before .before .before .before .before .before .before .before .pre .1) (c .before .before .before .before .before .before .before .before .before .piece-at .ensures) (c .before .before .before .columns .ensures .0) (c .before .others .ensures) (c .before .before .before .before .before .before .put-piece .ensures); grows = omega (arith, c .before .before .before .columns .ensures .1); on = omega arith; long = c .before .before .before .before .before .before .put-piece .kept .1 .0 }
 

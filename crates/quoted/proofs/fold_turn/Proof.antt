@@ -6,67 +6,51 @@ use borrow.Author.Needs.{needs}
 use Rattle.quoted.proofs.fold_turn.Statement.{statement}
 use Rattle.quoted.proofs.fold_turn.Tie as tie
 
--- src/lib.rt:466:9
 run-end-requires : tie.Need-run-end-requires
 run-end-requires c κs = search needs
 
--- src/lib.rt:470:28
 sub-text : tie.Need-sub-text
 sub-text c = search needs
 
--- src/lib.rt:470:28
 part-text-start : tie.Need-part-text-start
 part-text-start c = search needs
 
--- src/lib.rt:470:28
 part-text-end : tie.Need-part-text-end
 part-text-end c = search needs
 
--- src/lib.rt:470:16
 text-requires : tie.Need-text-requires
 text-requires c κs = search needs
 
--- src/lib.rt:471:27
 sub-t17 : tie.Need-sub-t17
 sub-t17 c = search needs
 
--- src/lib.rt:471:18
 add-t18 : tie.Need-add-t18
 add-t18 c = search needs
 
--- src/lib.rt:469:9
 same-length : tie.Need-same-length
 same-length c = search needs
 
--- src/lib.rt:469:9
 returns : tie.Need-returns
 returns c = let h = c .before .before .before .before .before .before .before .if1 .taken in record { same = fold-run _ (c .before .before .before .before .before .before .before .before .before .before .before .args .t .now) (c .before .before .before .before .before .before .before .before .before .before .before .args .i) (c .before .before .before .before .before .before .before .before .run-end .result) (c .before .before .before .before .before .before .before .before .run-end .ensures) (c .before .before .before .before .before .before .before .if1 .taken) (c .before .before .before .before .before .before .before .before .before .before .before .args .f) _ _ _ _ (c .before .before .before .text .ensures); grows = omega arith; on = c .before .before .before .before .before .before .before .if1 .taken; long = c .before .before .before .text .kept .1 .0 }
 
--- src/lib.rt:476:8
 breakable-at-requires : tie.Need-breakable-at-requires
 breakable-at-requires c κs = search needs
 
--- src/lib.rt:477:9
 fold-gap-requires : tie.Need-fold-gap-requires
 fold-gap-requires c κs = ((c .before .before .before .before .before .before .before .pre), sym (c .before .before .breakable-at .ensures) ∙ c .before .if2 .taken)
 
--- src/lib.rt:477:9
 same-length-2 : tie.Need-same-length-2
 same-length-2 c = search needs
 
--- src/lib.rt:477:9
 returns-2 : tie.Need-returns-2
 returns-2 c = search needs
 
--- src/lib.rt:479:5
 fold-piece-requires : tie.Need-fold-piece-requires
 fold-piece-requires c κs = ((c .before .before .before .before .before .before .before .pre), sym (c .before .before .breakable-at .ensures) ∙ c .before .if2 .left)
 
--- src/lib.rt:462:1
 same-length-3 : tie.Need-same-length-3
 same-length-3 c = search needs
 
--- src/lib.rt:462:1
 returns-3 : tie.Need-returns-3
 returns-3 c = search needs
 

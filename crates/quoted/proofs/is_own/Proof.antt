@@ -4,35 +4,27 @@ use Rattle.quoted.proofs.Laws.{own-single, own-double}
 use Rattle.quoted.proofs.is_own.Statement.{statement}
 use Rattle.quoted.proofs.is_own.Tie as tie
 
--- src/lib.rt:232:9
 returns : tie.Need-returns
 returns c = λ e. absurd (false≢true e)
 
--- src/lib.rt:235:9
 returns-2 : tie.Need-returns-2
 returns-2 c = own-single _ _ _ (c .before .if1 .left) (c .if2 .taken)
 
--- src/lib.rt:238:9
 returns-3 : tie.Need-returns-3
 returns-3 c = λ e. absurd (false≢true e)
 
--- src/lib.rt:241:9
 returns-4 : tie.Need-returns-4
 returns-4 c = λ e. absurd (false≢true e)
 
--- src/lib.rt:244:9
 returns-5 : tie.Need-returns-5
 returns-5 c = λ e. absurd (false≢true e)
 
--- src/lib.rt:247:9
 returns-6 : tie.Need-returns-6
 returns-6 c = λ e. absurd (false≢true e)
 
--- src/lib.rt:250:9
 returns-7 : tie.Need-returns-7
 returns-7 c = λ e. absurd (false≢true e)
 
--- src/lib.rt:228:1
 returns-8 : tie.Need-returns-8
 returns-8 c = own-double _ _ _ (c .before .before .before .before .before .before .if1 .left) (c .before .before .before .before .before .if2 .left) (c .before .before .before .before .if3 .left) (c .before .before .before .if4 .left) (c .before .before .if5 .left) (c .before .if6 .left) (c .if7 .left)
 

@@ -15,27 +15,21 @@ Inv-loop out₀ t single g₀ out g = (puts (body (quoteBy single) 0 (drop (g .a
 abbrev μ-loop : tie.MeasureT-loop
 μ-loop out₀ t single g₀ out g = length t - g .at
 
--- src/lib.rt:318:5
 loop-holds : tie.Need-loop-holds Inv-loop μ-loop
 loop-holds c = search needs
 
--- src/lib.rt:321:9
 body-turn-requires : tie.Need-body-turn-requires Inv-loop μ-loop
 body-turn-requires c κs = search needs
 
--- src/lib.rt:318:5
 loop-less : tie.Need-loop-less Inv-loop μ-loop
 loop-less c = let h = c .before .before .body-turn .ensures .on in let t = c .before .before .before .before .before .if1 .taken in omega arith
 
--- src/lib.rt:318:5
 loop-again : tie.Need-loop-again Inv-loop μ-loop
 loop-again c = (c .before .before .body-turn .ensures .same ∙ c .before .before .before .before .before .before .before .loop .inv .0, c .before .before .body-turn .kept .1 .0 ∙ c .before .before .before .before .before .before .before .loop .inv .1)
 
--- src/lib.rt:313:1
 same-length : tie.Need-same-length Inv-loop μ-loop
 same-length c = c .before .before .before .loop .inv .1
 
--- src/lib.rt:313:1
 returns : tie.Need-returns Inv-loop μ-loop
 unfolding body puts
 returns c = rw (drop-of-length-le _ (c .before .if1 .left)) at (c .before .before .before .loop .inv .0)

@@ -17,27 +17,21 @@ Inv-loop out₀ t single start f l₀ out l = (puts (foldedOf (quoteBy single) (
 abbrev μ-loop : tie.MeasureT-loop
 μ-loop out₀ t single start f l₀ out l = length t - l .at
 
--- src/lib.rt:500:5
 loop-holds : tie.Need-loop-holds Inv-loop μ-loop
 loop-holds c = (refl, refl, omega arith)
 
--- src/lib.rt:502:9
 fold-turn-requires : tie.Need-fold-turn-requires Inv-loop μ-loop
 fold-turn-requires c κs = let t = c .before .if1 .taken in let p = (c .before .before .before .before .before .before .pre) in record { inside = c .before .if1 .taken; short = c .before .before .before .before .before .before .pre .0; near = let a = c .before .before .before .loop .inv .2 in omega arith; room = let e = c .before .before .before .loop .inv .1 in omega arith }
 
--- src/lib.rt:500:5
 loop-less : tie.Need-loop-less Inv-loop μ-loop
 loop-less c = let h = c .before .before .fold-turn .ensures .on in let t = c .before .before .before .before .if1 .taken in omega arith
 
--- src/lib.rt:500:5
 loop-again : tie.Need-loop-again Inv-loop μ-loop
 loop-again c = (c .before .before .fold-turn .ensures .same ∙ c .before .before .before .before .before .before .loop .inv .0, c .before .before .fold-turn .ensures .long ∙ c .before .before .before .before .before .before .loop .inv .1, (let a = c .before .before .before .before .before .before .loop .inv .2 in let b = c .before .before .fold-turn .ensures .grows in omega arith))
 
--- src/lib.rt:483:1
 same-length : tie.Need-same-length Inv-loop μ-loop
 same-length c = c .before .before .before .loop .inv .1
 
--- src/lib.rt:483:1
 returns : tie.Need-returns Inv-loop μ-loop
 unfolding foldedOf puts
 returns c = rw (drop-of-length-le _ (c .before .if1 .left)) at (c .before .before .before .loop .inv .0)

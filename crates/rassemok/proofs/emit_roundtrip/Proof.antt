@@ -5,19 +5,15 @@ use borrow.Author.Needs.{needs}
 use Rattle.rassemok.proofs.emit_roundtrip.Statement.{statement}
 use Rattle.rassemok.proofs.emit_roundtrip.Tie as tie
 
--- src/lib.rt:236:9
 null-as-requires : tie.Need-null-as-requires
 null-as-requires c κs = search needs
 
--- src/lib.rt:237:5
 write-requires : tie.Need-write-requires
 write-requires c κs = search needs
 
--- src/lib.rt:233:1
 same-length : tie.Need-same-length
 same-length c = search needs
 
--- src/lib.rt:233:1
 returns : tie.Need-returns
 unfolding outcome plainSettings written
 returns c = rw (c .before .before .before .before .null-as .ensures) at (c .before .before .write .ensures)

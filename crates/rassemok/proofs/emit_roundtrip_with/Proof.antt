@@ -4,19 +4,15 @@ use borrow.Author.Needs.{needs}
 use Rattle.rassemok.proofs.emit_roundtrip_with.Statement.{statement}
 use Rattle.rassemok.proofs.emit_roundtrip_with.Tie as tie
 
--- src/lib.rt:248:9
 null-as-requires : tie.Need-null-as-requires
 null-as-requires c κs = search needs
 
--- src/lib.rt:249:5
 write-requires : tie.Need-write-requires
 write-requires c κs = search needs
 
--- src/lib.rt:240:1
 same-length : tie.Need-same-length
 same-length c = search needs
 
--- src/lib.rt:240:1
 returns : tie.Need-returns
 unfolding outcome written
 returns c = rw (c .before .before .before .before .null-as .ensures) at (c .before .before .write .ensures)

@@ -2,7 +2,6 @@ use Rattle.rassemok.specs.Options.{isOn}
 use Rattle.rassemok.proofs.is_on.Statement.{statement}
 use Rattle.rassemok.proofs.is_on.Tie as tie
 
--- src/lib.rt:287:1
 returns : tie.Need-returns
 unfolding isOn
 returns c = cc

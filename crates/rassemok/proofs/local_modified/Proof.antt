@@ -10,37 +10,29 @@ use borrow.Author.Needs.{needs}
 use Rattle.rassemok.proofs.local_modified.Statement.{statement}
 use Rattle.rassemok.proofs.local_modified.Tie as tie
 
--- src/lib.rt:185:9
 null-as-requires : tie.Need-null-as-requires
 null-as-requires c κs = search needs
 
--- src/lib.rt:186:9
 admit-requires : tie.Need-admit-requires
 admit-requires c κs = search needs
 
--- src/lib.rt:188:25
 enum-known-verdict : tie.Need-enum-known-verdict
 enum-known-verdict c = search needs
 
--- src/lib.rt:188:40
 look-requires : tie.Need-look-requires
 unfolding Says
 look-requires c κs = let a = said _ (lent (c .before .before .before .before .before .before .before .args .deck .now) (c .before .before .before .before .before .before .before .args .pool .now) []) _ _ (c .before .before .before .admit .ensures) (c .before .verdict .given .1) in (a .small, a .accepted)
 
--- src/lib.rt:189:28
 enum-known-verdict-2 : tie.Need-enum-known-verdict-2
 enum-known-verdict-2 c = search needs
 
--- src/lib.rt:189:47
 refuse-requires : tie.Need-refuse-requires
 refuse-requires c κs = search needs
 
--- src/lib.rt:182:1
 returns : tie.Need-returns
 unfolding outcome
 returns c = c .look .ensures
 
--- src/lib.rt:182:1
 returns-2 : tie.Need-returns-2
 unfolding Says outcome nullAs plainSettings
 returns-2 c = refusal-is _ _ _ _ (c .refuse .ensures) ∙ sym (said _ (lent (c .before .before .before .before .before .before .before .before .args .deck .now) (c .before .before .before .before .before .before .before .before .args .pool .now) []) _ _ (c .before .before .before .before .admit .ensures) (c .before .before .verdict2 .given .1) .refuses _ (subst (λ (s : Settings). Judged s tellModified) (sym (c .before .before .before .before .before .null-as .ensures)) modified-judged))

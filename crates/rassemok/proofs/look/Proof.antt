@@ -4,19 +4,15 @@ use borrow.Author.Needs.{needs}
 use Rattle.rassemok.proofs.look.Statement.{statement}
 use Rattle.rassemok.proofs.look.Tie as tie
 
--- src/lib.rt:169:9
 refuse-requires : tie.Need-refuse-requires
 refuse-requires c κs = search needs
 
--- src/lib.rt:169:9
 returns : tie.Need-returns
 returns c = not-one-looked _ _ ((c .before .before .before .before .pre) .0) _ _ ((c .before .before .before .before .pre) .1) (c .before .if1 .taken) (c .refuse .ensures)
 
--- src/lib.rt:172:9
 local-modified-requires : tie.Need-local-modified-requires
 local-modified-requires c κs = (omega arith, (c .before .before .before .pre) .0 .deck)
 
--- src/lib.rt:164:1
 returns-2 : tie.Need-returns-2
 returns-2 c = one-looked _ _ ((c .before .before .before .before .pre) .0) _ _ ((c .before .before .before .before .pre) .1) (c .before .if1 .left) (c .local-modified .ensures .told _)
 

@@ -2,7 +2,6 @@ use Rattle.definition.specs.Settings.{nullAs}
 use Rattle.rassemok.proofs.null_as.Statement.{statement}
 use Rattle.rassemok.proofs.null_as.Tie as tie
 
--- src/lib.rt:219:1
 returns : tie.Need-returns
 unfolding nullAs
 returns c = cc

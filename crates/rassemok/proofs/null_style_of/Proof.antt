@@ -3,17 +3,14 @@ use Rattle.rassemok.specs.Options.{nullStyleOf}
 use Rattle.rassemok.proofs.null_style_of.Statement.{statement}
 use Rattle.rassemok.proofs.null_style_of.Tie as tie
 
--- src/lib.rt:279:9
 returns : tie.Need-returns
 unfolding nullStyleOf
 returns c = rw (eq-eqb _ _ (c .if1 .taken))
 
--- src/lib.rt:282:9
 returns-2 : tie.Need-returns-2
 unfolding nullStyleOf
 returns-2 c = rw (ne-eqb _ _ (c .before .if1 .left), eq-eqb _ _ (c .if2 .taken))
 
--- src/lib.rt:275:1
 returns-3 : tie.Need-returns-3
 unfolding nullStyleOf
 returns-3 c = rw (ne-eqb _ _ (c .before .if1 .left), ne-eqb _ _ (c .if2 .left))

@@ -2,19 +2,15 @@ use borrow.Author.Needs.{needs}
 use Rattle.rassemok.proofs.rassemok_emit_roundtrip_with.Statement.{statement}
 use Rattle.rassemok.proofs.rassemok_emit_roundtrip_with.Tie as tie
 
--- src/lib.rt:325:9
 null-style-of-requires : tie.Need-null-style-of-requires
 null-style-of-requires c κs = search needs
 
--- src/lib.rt:326:5
 emit-roundtrip-with-requires : tie.Need-emit-roundtrip-with-requires
 emit-roundtrip-with-requires c κs = search needs
 
--- src/lib.rt:316:1
 same-length : tie.Need-same-length
 same-length c = search needs
 
--- src/lib.rt:316:1
 returns : tie.Need-returns
 returns c = rw (c .before .before .before .before .null-style-of .ensures) at (c .before .before .emit-roundtrip-with .ensures)
 

@@ -3,27 +3,21 @@ use borrow.Author.Needs.{needs}
 use Rattle.rassemok.proofs.settings_of.Statement.{statement}
 use Rattle.rassemok.proofs.settings_of.Tie as tie
 
--- src/lib.rt:296:9
 null-style-of-requires : tie.Need-null-style-of-requires
 null-style-of-requires c κs = search needs
 
--- src/lib.rt:299:27
 is-on-requires : tie.Need-is-on-requires
 is-on-requires c κs = search needs
 
--- src/lib.rt:300:23
 is-on-requires-2 : tie.Need-is-on-requires-2
 is-on-requires-2 c κs = search needs
 
--- src/lib.rt:302:21
 is-on-requires-3 : tie.Need-is-on-requires-3
 is-on-requires-3 c κs = search needs
 
--- src/lib.rt:303:24
 is-on-requires-4 : tie.Need-is-on-requires-4
 is-on-requires-4 c κs = search needs
 
--- src/lib.rt:293:1
 returns : tie.Need-returns
 unfolding settingsOf
 returns c = cc

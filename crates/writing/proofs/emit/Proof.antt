@@ -5,35 +5,27 @@ use borrow.Author.Needs.{needs}
 use Rattle.writing.proofs.emit.Statement.{statement}
 use Rattle.writing.proofs.emit.Tie as tie
 
--- src/lib.rt:195:9
 emit-all-requires : tie.Need-emit-all-requires
 emit-all-requires c κs = search needs
 
--- src/lib.rt:195:9
 same-length : tie.Need-same-length
 same-length c = search needs
 
--- src/lib.rt:195:9
 returns : tie.Need-returns
 returns c = rw (c .before .before .before .before .if1 .taken) (c .before .before .emit-all .ensures)
 
--- src/lib.rt:198:9
 refuse-requires : tie.Need-refuse-requires
 refuse-requires c κs = search needs
 
--- src/lib.rt:198:9
 returns-2 : tie.Need-returns-2
 returns-2 c = rw (c .before .before .if1 .left) (not-one _ _ _ _ ((c .before .before .before .before .before .before .pre) .0) ((c .before .before .before .before .before .before .pre) .1) _ _ ((c .before .before .before .before .before .before .pre) .2) (c .before .if2 .taken) (c .refuse .ensures))
 
--- src/lib.rt:200:5
 emit-one-requires : tie.Need-emit-one-requires
 emit-one-requires c κs = ((c .before .before .before .before .before .before .pre) .0, (c .before .before .before .before .before .before .pre) .1, subst (Accepted _ _) (c .before .if2 .left) ((c .before .before .before .before .before .before .pre) .2))
 
--- src/lib.rt:183:1
 same-length-2 : tie.Need-same-length-2
 same-length-2 c = search needs
 
--- src/lib.rt:183:1
 returns-3 : tie.Need-returns-3
 returns-3 c = rw (c .before .before .before .before .before .if1 .left) (c .before .before .emit-one .ensures)
 

@@ -4,23 +4,18 @@ use borrow.Author.Needs.{needs}
 use Rattle.writing.proofs.settle.Statement.{statement}
 use Rattle.writing.proofs.settle.Tie as tie
 
--- src/lib.rt:145:9
 clear-requires : tie.Need-clear-requires
 clear-requires c κs = search needs
 
--- src/lib.rt:146:9
 refuse-requires : tie.Need-refuse-requires
 refuse-requires c κs = search needs
 
--- src/lib.rt:146:9
 same-length : tie.Need-same-length
 same-length c = search needs
 
--- src/lib.rt:146:9
 returns : tie.Need-returns
 returns c = tells-over _ _ _ (c .before .before .before .before .before .if1 .taken) (c .refuse .ensures) (c .before .before .before .clear .ensures)
 
--- src/lib.rt:140:1
 returns-2 : tie.Need-returns-2
 returns-2 c = tells-fits _ _ (c .if1 .left) refl
 

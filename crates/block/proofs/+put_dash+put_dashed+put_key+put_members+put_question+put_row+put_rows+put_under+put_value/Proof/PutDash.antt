@@ -16,39 +16,30 @@ use Rattle.block.proofs.put_dashed.Reads as put-dashed
 use Rattle.block.proofs.put_value.Reads as put-value
 use Rattle.block.proofs.+put_dash+put_dashed+put_key+put_members+put_question+put_row+put_rows+put_under+put_value.Proof.Base.{put-dash-at, put-dash-claims}
 
--- src/lib.rt:244:9
 pub put-dash-byte-requires : (t : ℕ) → put-dash-lts.Need-byte-requires (put-dash-claims t) (put-dash-at t) put-dash.Post
 put-dash-byte-requires t c κs = search needs
 
--- src/lib.rt:245:8
 pub put-dash-is-included-requires : (t : ℕ) → put-dash-lts.Need-is-included-requires (put-dash-claims t) (put-dash-at t) put-dash.Post
 put-dash-is-included-requires t c κs = search needs
 
--- src/lib.rt:246:9
 pub put-dash-put-include-requires : (t : ℕ) → put-dash-lts.Need-put-include-requires (put-dash-claims t) (put-dash-at t) put-dash.Post
 put-dash-put-include-requires t c κs = let p = calm-drawn ((c .before .before .before .before .before .before .before .before .before .before .pre) .1 .0) (of-byte mark _ (c .before .before .before .before .before .byte .ensures)) in let r = p .ready in let g = spot-good _ _ _ (r .here) (r .deck-small) ((c .before .before .before .before .before .before .before .before .before .before .pre) .1 .1) in (r .out-small, r .here, r .deck-small, omega (arith, g .2, r .deck-small))
 
--- src/lib.rt:246:9
 pub put-dash-same-length : (t : ℕ) → put-dash-lts.Need-same-length (put-dash-claims t) (put-dash-at t) put-dash.Post
 put-dash-same-length t c = search needs
 
--- src/lib.rt:246:9
 pub put-dash-returns : (t : ℕ) → put-dash-lts.Need-returns (put-dash-claims t) (put-dash-at t) put-dash.Post
 put-dash-returns t c = let r = (c .before .before .before .before .before .before .before .before .before .before .before .before .before .pre) .1 .0 .ready in dash-included _ _ _ _ _ _ _ _ (r .here) ((c .before .before .before .before .before .before .before .before .before .before .before .before .before .pre) .1 .1) (c .before .before .before .before .before .before .before .before .byte .ensures) (c .before .before .before .before .before .is-included .ensures) (c .before .before .before .before .if1 .taken) (c .before .before .put-include .ensures)
 
--- src/lib.rt:248:8
 pub put-dash-is-block-requires : (t : ℕ) → put-dash-lts.Need-is-block-requires (put-dash-claims t) (put-dash-at t) put-dash.Post
 put-dash-is-block-requires t c κs = search needs
 
--- src/lib.rt:249:9
 pub put-dash-put-dashed-requires : (t : ℕ) → put-dash-lts.Need-put-dashed-requires (put-dash-claims t) (put-dash-at t) put-dash.Post
 put-dash-put-dashed-requires t c κs = let q = (c .before .before .before .before .before .before .before .before .before .before .before .before .pre) .0 in let p = calm-drawn ((c .before .before .before .before .before .before .before .before .before .before .before .before .pre) .1 .0) (of-byte mark _ (c .before .before .before .before .before .before .before .byte .ensures)) in let r = p .ready in let g = spot-good _ _ _ (r .here) (r .deck-small) ((c .before .before .before .before .before .before .before .before .before .before .before .before .pre) .1 .1) in (omega (arith, q, g .1, g .2), (calm-further p _ (g .1) (g .2), g .0, few-spot _ (λ k. omega (arith, c .before .before .before .before .before .before .before .before .before .before .before .shared-slice-known .given k)) _ _ (r .here) ((c .before .before .before .before .before .before .before .before .before .before .before .before .pre) .1 .1), sym (c .before .before .is-block .ensures) ∙ c .before .if2 .taken))
 
--- src/lib.rt:249:9
 pub put-dash-same-length-2 : (t : ℕ) → put-dash-lts.Need-same-length-2 (put-dash-claims t) (put-dash-at t) put-dash.Post
 put-dash-same-length-2 t c = search needs
 
--- src/lib.rt:249:9
 pub put-dash-returns-2 : (t : ℕ) → put-dash-lts.Need-returns-2 (put-dash-claims t) (put-dash-at t) put-dash.Post
 put-dash-returns-2 t c = let r = (c .before .before .before .before .before .before .before .before .before .before .before .before .before .before .before .pre) .1 .0 .ready in dash-block _ _ _ _ _ _ _ _ _ _ (r .here) (r .deck-small) ((c .before .before .before .before .before .before .before .before .before .before .before .before .before .before .before .pre) .1 .1) (c .before .before .before .before .before .before .before .before .before .before .byte .ensures) (c .before .before .before .before .before .before .before .is-included .ensures) (c .before .before .before .before .before .before .if1 .left) (c .before .before .before .before .before .is-block .ensures) (c .before .before .before .before .if2 .taken) (c .before .before .put-dashed .ensures)
 

@@ -9,15 +9,12 @@ use Rattle.block.proofs.put_question.Reads as put-question
 use Rattle.block.proofs.+put_dash+put_dashed+put_key+put_members+put_question+put_row+put_rows+put_under+put_value.Lts-put_question as put-question-lts
 use Rattle.block.proofs.+put_dash+put_dashed+put_key+put_members+put_question+put_row+put_rows+put_under+put_value.Proof.Base.{put-question-at, put-question-claims}
 
--- src/lib.rt:192:17
 pub put-question-step-of-requires : (t : ℕ) → put-question-lts.Need-step-of-requires (put-question-claims t) (put-question-at t) put-question.Post
 put-question-step-of-requires t c κs = search needs
 
--- src/lib.rt:192:13
 pub put-question-add-j : (t : ℕ) → put-question-lts.Need-add-j (put-question-claims t) (put-question-at t) put-question.Post
 put-question-add-j t c = let p = (c .before .before .before .before .pre) .1 .0 in let e = c .step-of .ensures .1 (p .ready .step) in omega (arith, e, p .column)
 
--- src/lib.rt:193:8
 pub put-question-is-block-requires : (t : ℕ) → put-question-lts.Need-is-block-requires (put-question-claims t) (put-question-at t) put-question.Post
 put-question-is-block-requires t c κs = search needs
 
@@ -33,14 +30,11 @@ put-question-same-length t c = search needs
 pub put-question-returns : (t : ℕ) → put-question-lts.Need-returns (put-question-claims t) (put-question-at t) put-question.Post
 put-question-returns t c = key-below-block _ _ _ _ _ _ _ _ _ (c .before .before .before .before .before .before .before .before .before .before .step-of .ensures .0) refl (c .before .before .before .before .before .before .before .before .before .is-block .ensures) (c .before .before .before .before .before .before .before .before .if1 .taken) (c .before .before .before .before .before .before .put-dressed .ensures) (c .before .before .put-members .ensures)
 
--- src/lib.rt:198:5
 pub put-question-put-key-line-requires : (t : ℕ) → put-question-lts.Need-put-key-line-requires (put-question-claims t) (put-question-at t) put-question.Post
 put-question-put-key-line-requires t c κs = let p = (c .before .before .before .before .before .before .before .pre) .1 .0 in let e = c .before .before .before .step-of .ensures .1 (p .ready .step) in (in-line p _ _ (omega arith) (p .ready .here) (omega (arith, e)), (c .before .before .before .before .before .before .before .pre) .1 .1, (c .before .before .before .before .before .before .before .pre) .1 .2, p .flow, p .key)
 
--- src/lib.rt:178:1
 pub put-question-same-length-2 : (t : ℕ) → put-question-lts.Need-same-length-2 (put-question-claims t) (put-question-at t) put-question.Post
 put-question-same-length-2 t c = search needs
 
--- src/lib.rt:178:1
 pub put-question-returns-2 : (t : ℕ) → put-question-lts.Need-returns-2 (put-question-claims t) (put-question-at t) put-question.Post
 put-question-returns-2 t c = key-below-line _ _ _ _ _ _ _ _ _ (c .before .before .before .before .before .before .step-of .ensures .0) refl (c .before .before .before .before .before .is-block .ensures) (c .before .before .before .before .if1 .left) (c .before .before .put-key-line .ensures)

@@ -10,15 +10,12 @@ use Rattle.block.proofs.put_row.Reads as put-row
 use Rattle.block.proofs.+put_dash+put_dashed+put_key+put_members+put_question+put_row+put_rows+put_under+put_value.Lts-put_row as put-row-lts
 use Rattle.block.proofs.+put_dash+put_dashed+put_key+put_members+put_question+put_row+put_rows+put_under+put_value.Proof.Base.{put-row-at, put-row-claims}
 
--- src/lib.rt:142:9
 pub put-row-spot-at-requires : (t : ℕ) → put-row-lts.Need-spot-at-requires (put-row-claims t) (put-row-at t) put-row.Post
 put-row-spot-at-requires t c κs = search needs
 
--- src/lib.rt:142:9
 pub put-row-put-before-requires : (t : ℕ) → put-row-lts.Need-put-before-requires (put-row-claims t) (put-row-at t) put-row.Post
 put-row-put-before-requires t c κs = let p = (c .before .before .before .before .before .pre) .1 in let r = p .ready in let g = spot-good _ _ _ (r .here) (r .deck-small) (c .before .spot-at .ensures) in (omega (arith, r .out-small), g .0 .short)
 
--- src/lib.rt:144:13
 pub put-row-put-key-requires : (t : ℕ) → put-row-lts.Need-put-key-requires (put-row-claims t) (put-row-at t) put-row.Post
 put-row-put-key-requires t c κs = let q = (c .before .before .before .before .before .before .before .before .before .before .pre) .0 in let p = (c .before .before .before .before .before .before .before .before .before .before .pre) .1 in let r = p .ready in let g = spot-good _ _ _ (r .here) (r .deck-small) (c .before .before .before .before .before .before .spot-at .ensures) in (omega (arith, q, g .1, g .2), (calm-further (calm-drawn p (c .before .before .before .before .put-before .ensures)) _ (g .1) (g .2), g .0, few-spot _ (λ k. omega (arith, c .before .before .before .before .before .before .before .before .before .shared-slice-known .given k)) _ _ (r .here) (c .before .before .before .before .before .before .spot-at .ensures)))
 
@@ -34,14 +31,11 @@ put-row-same-length t c = search needs
 pub put-row-returns : (t : ℕ) → put-row-lts.Need-returns (put-row-claims t) (put-row-at t) put-row.Post
 put-row-returns t c = let r = (c .before .before .before .before .before .before .before .before .before .before .before .before .before .before .before .before .before .before .before .pre) .1 .ready in pair-row _ _ _ _ _ _ _ _ _ _ _ (r .here) (r .deck-small) (c .before .before .before .before .before .before .before .before .before .before .before .before .before .before .before .spot-at .ensures) (c .before .before .before .before .before .before .before .before .before .before .if1 .taken) (c .before .before .before .before .before .before .before .before .before .before .before .before .before .put-before .ensures) (c .before .before .before .before .before .before .before .before .put-key .ensures) (rw (c .before .before .before .before .anew .ensures) at (c .before .before .put-value .ensures))
 
--- src/lib.rt:149:5
 pub put-row-put-dash-requires : (t : ℕ) → put-row-lts.Need-put-dash-requires (put-row-claims t) (put-row-at t) put-row.Post
 put-row-put-dash-requires t c κs = let q = (c .before .before .before .before .before .before .before .before .before .before .pre) .0 in (omega (arith, q), (calm-drawn ((c .before .before .before .before .before .before .before .before .before .before .pre) .1) (c .before .before .before .before .put-before .ensures), c .before .before .before .before .before .before .spot-at .ensures))
 
--- src/lib.rt:127:1
 pub put-row-same-length-2 : (t : ℕ) → put-row-lts.Need-same-length-2 (put-row-claims t) (put-row-at t) put-row.Post
 put-row-same-length-2 t c = search needs
 
--- src/lib.rt:127:1
 pub put-row-returns-2 : (t : ℕ) → put-row-lts.Need-returns-2 (put-row-claims t) (put-row-at t) put-row.Post
 put-row-returns-2 t c = let r = (c .before .before .before .before .before .before .before .before .before .before .before .before .before .pre) .1 .ready in item-row _ _ _ _ _ _ _ _ _ _ (r .here) (c .before .before .before .before .before .before .before .before .before .spot-at .ensures) (c .before .before .before .before .if1 .left) (c .before .before .before .before .before .before .before .put-before .ensures) (c .before .before .put-dash .ensures)

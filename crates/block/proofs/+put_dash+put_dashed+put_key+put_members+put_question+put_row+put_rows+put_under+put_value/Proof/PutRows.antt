@@ -14,33 +14,26 @@ put-rows-Inv-loop deck pool out₀ settings pairs n i begin v₀ here₀ left₀
 abbrev pub put-rows-μ-loop : put-rows-lts.MeasureT-loop
 put-rows-μ-loop deck pool out₀ settings pairs n i begin v₀ here₀ left₀ lead₀ first₀ out v here left lead first = left
 
--- src/lib.rt:115:5
 pub put-rows-loop-holds : (t : ℕ) → put-rows-lts.Need-loop-holds (put-rows-claims t) (put-rows-at t) put-rows.Post put-rows-Inv-loop put-rows-μ-loop
 put-rows-loop-holds t c = start _ _ _ _ _ _ _ _ _ _ ((c .before .before .before .pre) .1)
 
--- src/lib.rt:116:13
 pub put-rows-put-row-requires : (t : ℕ) → put-rows-lts.Need-put-row-requires (put-rows-claims t) (put-rows-at t) put-rows.Post put-rows-Inv-loop put-rows-μ-loop
 put-rows-put-row-requires t c κs = let g = c .before .before .loop .inv in let q = (c .before .before .before .before .before .before .pre) .0 in (omega (arith, q, g .onward, g .calm .ready .here), g .calm)
 
 pub put-rows-anew-requires : (t : ℕ) → put-rows-lts.Need-anew-requires (put-rows-claims t) (put-rows-at t) put-rows.Post put-rows-Inv-loop put-rows-μ-loop
 put-rows-anew-requires t c κs = search needs
 
--- src/lib.rt:121:9
 pub put-rows-sub-left : (t : ℕ) → put-rows-lts.Need-sub-left (put-rows-claims t) (put-rows-at t) put-rows.Post put-rows-Inv-loop put-rows-μ-loop
 put-rows-sub-left t c = search needs
 
--- src/lib.rt:115:5
 pub put-rows-loop-less : (t : ℕ) → put-rows-lts.Need-loop-less (put-rows-claims t) (put-rows-at t) put-rows.Post put-rows-Inv-loop put-rows-μ-loop
 put-rows-loop-less t c = search needs
 
--- src/lib.rt:115:5
 pub put-rows-loop-again : (t : ℕ) → put-rows-lts.Need-loop-again (put-rows-claims t) (put-rows-at t) put-rows.Post put-rows-Inv-loop put-rows-μ-loop
 put-rows-loop-again t c = rw (c .before .anew .ensures) (step _ _ _ _ _ _ _ _ _ _ _ _ _ _ _ _ _ (c .before .before .before .before .before .before .before .loop .inv) (c .before .before .before .before .before .before .loop-test .taken) (c .before .before .before .before .put-row .ensures))
 
--- src/lib.rt:95:1
 pub put-rows-same-length : (t : ℕ) → put-rows-lts.Need-same-length (put-rows-claims t) (put-rows-at t) put-rows.Post put-rows-Inv-loop put-rows-μ-loop
 put-rows-same-length t c = c .before .loop .inv .size
 
--- src/lib.rt:95:1
 pub put-rows-returns : (t : ℕ) → put-rows-lts.Need-returns (put-rows-claims t) (put-rows-at t) put-rows.Post put-rows-Inv-loop put-rows-μ-loop
 put-rows-returns t c = stop _ _ _ _ _ _ _ _ _ _ _ _ _ _ (c .before .loop .inv) (let z = c .loop-test .left in omega arith)

@@ -13,51 +13,39 @@ use Rattle.block.proofs.put_value.Reads as put-value
 use Rattle.block.proofs.+put_dash+put_dashed+put_key+put_members+put_question+put_row+put_rows+put_under+put_value.Lts-put_value as put-value-lts
 use Rattle.block.proofs.+put_dash+put_dashed+put_key+put_members+put_question+put_row+put_rows+put_under+put_value.Proof.Base.{put-value-at, put-value-claims}
 
--- src/lib.rt:214:9
 pub put-value-spot-at-requires : (t : ℕ) → put-value-lts.Need-spot-at-requires (put-value-claims t) (put-value-at t) put-value.Post
 put-value-spot-at-requires t c κs = search needs
 
--- src/lib.rt:217:8
 pub put-value-is-included-requires : (t : ℕ) → put-value-lts.Need-is-included-requires (put-value-claims t) (put-value-at t) put-value.Post
 put-value-is-included-requires t c κs = search needs
 
--- src/lib.rt:218:9
 pub put-value-put-include-requires : (t : ℕ) → put-value-lts.Need-put-include-requires (put-value-claims t) (put-value-at t) put-value.Post
 put-value-put-include-requires t c κs = let r = (c .before .before .before .before .before .before .before .pre) .1 .ready in let g = spot-good _ _ _ (r .here) (r .deck-small) (c .before .before .before .spot-at .ensures) in (r .out-small, r .here, r .deck-small, omega (arith, g .2, r .deck-small))
 
--- src/lib.rt:218:9
 pub put-value-same-length : (t : ℕ) → put-value-lts.Need-same-length (put-value-claims t) (put-value-at t) put-value.Post
 put-value-same-length t c = search needs
 
--- src/lib.rt:218:9
 pub put-value-returns : (t : ℕ) → put-value-lts.Need-returns (put-value-claims t) (put-value-at t) put-value.Post
 put-value-returns t c = let r = (c .before .before .before .before .before .before .before .before .before .before .pre) .1 .ready in value-included _ _ _ _ _ _ _ _ (r .here) (c .before .before .before .before .before .before .spot-at .ensures) (c .before .before .before .before .before .is-included .ensures) (c .before .before .before .before .if1 .taken) (c .before .before .put-include .ensures)
 
--- src/lib.rt:220:8
 pub put-value-is-block-requires : (t : ℕ) → put-value-lts.Need-is-block-requires (put-value-claims t) (put-value-at t) put-value.Post
 put-value-is-block-requires t c κs = search needs
 
--- src/lib.rt:221:13
 pub put-value-value-column-requires : (t : ℕ) → put-value-lts.Need-value-column-requires (put-value-claims t) (put-value-at t) put-value.Post
 put-value-value-column-requires t c κs = search needs
 
--- src/lib.rt:222:9
 pub put-value-put-under-requires : (t : ℕ) → put-value-lts.Need-put-under-requires (put-value-claims t) (put-value-at t) put-value.Post
 put-value-put-under-requires t c κs = let q = (c .before .before .before .before .before .before .before .before .before .before .pre) .0 in let p = (c .before .before .before .before .before .before .before .before .before .before .pre) .1 in let r = p .ready in let g = spot-good _ _ _ (r .here) (r .deck-small) (c .before .before .before .before .before .before .spot-at .ensures) in let d = deeper _ (c .before .before .before .before .before .before .spot-at .result) _ (g .0) (c .before .before .before .is-block .ensures) (c .before .before .if2 .taken) in let v = c .before .value-column .ensures in (omega (arith, q, d, g .1, g .0 .within), (calm-inside p _ _ (omega (arith, d, g .1)) (g .0 .within) (v .2), g .0, few-spot _ (λ k. omega (arith, c .before .before .before .before .before .before .before .before .before .shared-slice-known .given k)) _ _ (r .here) (c .before .before .before .before .before .before .spot-at .ensures), omega (arith, g .2, r .deck-small)))
 
--- src/lib.rt:222:9
 pub put-value-same-length-2 : (t : ℕ) → put-value-lts.Need-same-length-2 (put-value-claims t) (put-value-at t) put-value.Post
 put-value-same-length-2 t c = search needs
 
--- src/lib.rt:222:9
 pub put-value-returns-2 : (t : ℕ) → put-value-lts.Need-returns-2 (put-value-claims t) (put-value-at t) put-value.Post
 put-value-returns-2 t c = let r = (c .before .before .before .before .before .before .before .before .before .before .before .before .before .pre) .1 .ready in value-block _ _ _ _ _ _ _ _ _ _ (r .here) (r .deck-small) (c .before .before .before .before .before .before .before .before .before .spot-at .ensures) (c .before .before .before .before .before .before .before .before .is-included .ensures) (c .before .before .before .before .before .before .before .if1 .left) (c .before .before .before .before .before .before .is-block .ensures) (c .before .before .before .before .before .if2 .taken) (c .before .before .before .before .value-column .ensures .0) (c .before .before .put-under .ensures)
 
--- src/lib.rt:224:17
 pub put-value-step-of-requires : (t : ℕ) → put-value-lts.Need-step-of-requires (put-value-claims t) (put-value-at t) put-value.Post
 put-value-step-of-requires t c κs = search needs
 
--- src/lib.rt:224:13
 pub put-value-add-j : (t : ℕ) → put-value-lts.Need-add-j (put-value-claims t) (put-value-at t) put-value.Post
 put-value-add-j t c = let p = (c .before .before .before .before .before .before .before .before .before .pre) .1 in let e = c .step-of .ensures .1 (p .ready .step) in omega (arith, e, p .column)
 

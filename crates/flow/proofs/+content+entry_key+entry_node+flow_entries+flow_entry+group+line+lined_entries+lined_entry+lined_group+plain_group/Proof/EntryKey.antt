@@ -7,22 +7,17 @@ use Rattle.flow.proofs.entry_key.Reads as entry-key
 use Rattle.flow.proofs.+content+entry_key+entry_node+flow_entries+flow_entry+group+line+lined_entries+lined_entry+lined_group+plain_group.Lts-entry_key as entry-key-lts
 use Rattle.flow.proofs.+content+entry_key+entry_node+flow_entries+flow_entry+group+line+lined_entries+lined_entry+lined_group+plain_group.Proof.Base.{entry-key-at, entry-key-claims}
 
--- src/lib.rt:269:13
 pub entry-key-entry-node-requires : (t : ℕ) → entry-key-lts.Need-entry-node-requires (entry-key-claims t) (entry-key-at t) entry-key.Post
 entry-key-entry-node-requires t c κs = let q = c .before .before .before .before .before .pre .0 in (omega (arith, q), (c .before .before .before .before .before .pre .1 .0, hushed-lead _ _ _ _ _ (c .before .before .before .before .before .pre .1 .1)))
 
--- src/lib.rt:272:13
 pub entry-key-byte-requires : (t : ℕ) → entry-key-lts.Need-byte-requires (entry-key-claims t) (entry-key-at t) entry-key.Post
 entry-key-byte-requires t c κs = search needs
 
--- src/lib.rt:273:9
 pub entry-key-same-length : (t : ℕ) → entry-key-lts.Need-same-length (entry-key-claims t) (entry-key-at t) entry-key.Post
 entry-key-same-length t c = search needs
 
--- src/lib.rt:273:9
 pub entry-key-returns : (t : ℕ) → entry-key-lts.Need-returns (entry-key-claims t) (entry-key-at t) entry-key.Post
 entry-key-returns t c = key-emits _ _ _ _ _ _ _ _ _ (c .before .before .before .before .before .before .before .before .before .if1 .taken) (c .before .before .before .before .before .before .before .entry-node .ensures) (c .before .before .byte .ensures)
 
--- src/lib.rt:255:1
 pub entry-key-returns-2 : (t : ℕ) → entry-key-lts.Need-returns-2 (entry-key-claims t) (entry-key-at t) entry-key.Post
 entry-key-returns-2 t c = no-key _ _ _ _ _ _ _ _ (c .if1 .left) (c .before .before .before .before .pre .1 .0 .here)

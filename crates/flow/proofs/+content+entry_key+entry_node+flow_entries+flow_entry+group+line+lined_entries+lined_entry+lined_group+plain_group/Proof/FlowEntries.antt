@@ -18,34 +18,26 @@ flow-entries-Inv-loop deck pool out₀ settings pairs n i still v₀ here₀ lef
 abbrev pub flow-entries-μ-loop : flow-entries-lts.MeasureT-loop
 flow-entries-μ-loop deck pool out₀ settings pairs n i still v₀ here₀ left₀ first₀ out v here left first = left
 
--- src/lib.rt:219:5
 pub flow-entries-loop-holds : (t : ℕ) → flow-entries-lts.Need-loop-holds (flow-entries-claims t) (flow-entries-at t) flow-entries.Post flow-entries-Inv-loop flow-entries-μ-loop
 flow-entries-loop-holds t c = (start _ _ _ _ _ _ _ _ _ _ ((c .before .before .before .pre) .1 .0), (c .before .before .before .pre) .1 .1)
 
--- src/lib.rt:220:13
 pub flow-entries-put-between-requires : (t : ℕ) → flow-entries-lts.Need-put-between-requires (flow-entries-claims t) (flow-entries-at t) flow-entries.Post flow-entries-Inv-loop flow-entries-μ-loop
 flow-entries-put-between-requires t c κs = let r = c .before .before .loop .inv .0 .ready in let f = r .fit in let o = r .out-small in (omega (arith, f .column, o), omega (arith, o))
 
--- src/lib.rt:221:13
 pub flow-entries-flow-entry-requires : (t : ℕ) → flow-entries-lts.Need-flow-entry-requires (flow-entries-claims t) (flow-entries-at t) flow-entries.Post flow-entries-Inv-loop flow-entries-μ-loop
 flow-entries-flow-entry-requires t c κs = let g = c .before .before .before .before .before .before .loop .inv .0 in let r = g .ready in let q = (c .before .before .before .before .before .before .before .before .before .before .pre) .0 in (omega (arith, q, g .onward, r .here), (after r _ _ _ (c .before .before .before .put-between .ensures), hushed-first _ _ _ _ _ _ (c .before .before .before .before .before .loop-test .taken) (c .before .before .before .before .before .before .loop .inv .1)))
 
--- src/lib.rt:225:9
 pub flow-entries-sub-left : (t : ℕ) → flow-entries-lts.Need-sub-left (flow-entries-claims t) (flow-entries-at t) flow-entries.Post flow-entries-Inv-loop flow-entries-μ-loop
 flow-entries-sub-left t c = search needs
 
--- src/lib.rt:219:5
 pub flow-entries-loop-less : (t : ℕ) → flow-entries-lts.Need-loop-less (flow-entries-claims t) (flow-entries-at t) flow-entries.Post flow-entries-Inv-loop flow-entries-μ-loop
 flow-entries-loop-less t c = search needs
 
--- src/lib.rt:219:5
 pub flow-entries-loop-again : (t : ℕ) → flow-entries-lts.Need-loop-again (flow-entries-claims t) (flow-entries-at t) flow-entries.Post flow-entries-Inv-loop flow-entries-μ-loop
 flow-entries-loop-again t c = (flow-step _ _ _ _ _ _ _ _ _ _ _ _ _ _ _ _ (c .before .before .before .before .before .before .before .before .before .before .before .loop .inv .0) (c .before .before .before .before .before .before .before .before .before .before .loop-test .taken) (c .before .before .before .before .before .before .before .before .put-between .ensures) (c .before .before .before .before .flow-entry .ensures), hushed-rest _ _ _ _ _ _ _ (c .before .before .before .before .before .before .before .before .before .before .loop-test .taken) (c .before .before .before .before .flow-entry .ensures .next) (c .before .before .before .before .before .before .before .before .before .before .before .loop .inv .1))
 
--- src/lib.rt:201:1
 pub flow-entries-same-length : (t : ℕ) → flow-entries-lts.Need-same-length (flow-entries-claims t) (flow-entries-at t) flow-entries.Post flow-entries-Inv-loop flow-entries-μ-loop
 flow-entries-same-length t c = c .before .loop .inv .0 .size
 
--- src/lib.rt:201:1
 pub flow-entries-returns : (t : ℕ) → flow-entries-lts.Need-returns (flow-entries-claims t) (flow-entries-at t) flow-entries.Post flow-entries-Inv-loop flow-entries-μ-loop
 flow-entries-returns t c = flow-stop _ _ _ _ _ _ _ _ _ _ _ _ (c .before .loop .inv .0) (let z = c .loop-test .left in omega arith)

@@ -8,15 +8,12 @@ use Rattle.flow.proofs.group.Reads as group
 use Rattle.flow.proofs.+content+entry_key+entry_node+flow_entries+flow_entry+group+line+lined_entries+lined_entry+lined_group+plain_group.Lts-group as group-lts
 use Rattle.flow.proofs.+content+entry_key+entry_node+flow_entries+flow_entry+group+line+lined_entries+lined_entry+lined_group+plain_group.Proof.Base.{group-at, group-claims}
 
--- src/lib.rt:119:17
 pub group-step-of-requires : (t : ℕ) → group-lts.Need-step-of-requires (group-claims t) (group-at t) group.Post
 group-step-of-requires t c κs = search needs
 
--- src/lib.rt:119:13
 pub group-add-j : (t : ℕ) → group-lts.Need-add-j (group-claims t) (group-at t) group.Post
 group-add-j t c = let r = c .before .before .before .before .pre .1 .0 in let e = c .step-of .ensures .0 in omega (arith, e, r .indent)
 
--- src/lib.rt:120:8
 pub group-is-quiet-requires : (t : ℕ) → group-lts.Need-is-quiet-requires (group-claims t) (group-at t) group.Post
 group-is-quiet-requires t c κs = search needs
 

@@ -15,30 +15,23 @@ lined-entries-Inv-loop deck pool out₀ settings pairs n i v₀ here₀ left₀ 
 abbrev pub lined-entries-μ-loop : lined-entries-lts.MeasureT-loop
 lined-entries-μ-loop deck pool out₀ settings pairs n i v₀ here₀ left₀ out v here left = left
 
--- src/lib.rt:191:5
 pub lined-entries-loop-holds : (t : ℕ) → lined-entries-lts.Need-loop-holds (lined-entries-claims t) (lined-entries-at t) lined-entries.Post lined-entries-Inv-loop lined-entries-μ-loop
 lined-entries-loop-holds t c = start _ _ _ _ _ _ _ _ _ _ ((c .before .before .before .pre) .1)
 
--- src/lib.rt:192:13
 pub lined-entries-lined-entry-requires : (t : ℕ) → lined-entries-lts.Need-lined-entry-requires (lined-entries-claims t) (lined-entries-at t) lined-entries.Post lined-entries-Inv-loop lined-entries-μ-loop
 lined-entries-lined-entry-requires t c κs = let g = c .before .before .loop .inv in let r = g .ready in let q = (c .before .before .before .before .before .before .pre) .0 in (omega (arith, q, g .onward, r .here), r)
 
--- src/lib.rt:195:9
 pub lined-entries-sub-left : (t : ℕ) → lined-entries-lts.Need-sub-left (lined-entries-claims t) (lined-entries-at t) lined-entries.Post lined-entries-Inv-loop lined-entries-μ-loop
 lined-entries-sub-left t c = search needs
 
--- src/lib.rt:191:5
 pub lined-entries-loop-less : (t : ℕ) → lined-entries-lts.Need-loop-less (lined-entries-claims t) (lined-entries-at t) lined-entries.Post lined-entries-Inv-loop lined-entries-μ-loop
 lined-entries-loop-less t c = search needs
 
--- src/lib.rt:191:5
 pub lined-entries-loop-again : (t : ℕ) → lined-entries-lts.Need-loop-again (lined-entries-claims t) (lined-entries-at t) lined-entries.Post lined-entries-Inv-loop lined-entries-μ-loop
 lined-entries-loop-again t c = lined-step _ _ _ _ _ _ _ _ _ _ _ _ _ _ _ _ (c .before .before .before .before .before .before .before .loop .inv) (c .before .before .before .before .before .before .loop-test .taken) refl (c .before .before .before .before .lined-entry .ensures)
 
--- src/lib.rt:174:1
 pub lined-entries-same-length : (t : ℕ) → lined-entries-lts.Need-same-length (lined-entries-claims t) (lined-entries-at t) lined-entries.Post lined-entries-Inv-loop lined-entries-μ-loop
 lined-entries-same-length t c = c .before .loop .inv .size
 
--- src/lib.rt:174:1
 pub lined-entries-returns : (t : ℕ) → lined-entries-lts.Need-returns (lined-entries-claims t) (lined-entries-at t) lined-entries.Post lined-entries-Inv-loop lined-entries-μ-loop
 lined-entries-returns t c = lined-stop _ _ _ _ _ _ _ _ _ _ _ _ (c .before .loop .inv) (let z = c .loop-test .left in omega arith)

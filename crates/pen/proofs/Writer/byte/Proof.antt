@@ -5,44 +5,34 @@ use Rattle.pen.specs.Pen.{put1}
 use Rattle.pen.proofs.Writer.byte.Statement.{statement}
 use Rattle.pen.proofs.Writer.byte.Tie as tie
 
--- src/lib.rt:60:20
 add-most : tie.Need-add-most
 add-most c = search needs
 
--- src/lib.rt:62:13
 column-after-requires : tie.Need-column-after-requires
 column-after-requires c κs = search needs
 
--- src/lib.rt:64:9
 wide-requires : tie.Need-wide-requires
 wide-requires c κs = search needs
 
--- src/lib.rt:65:9
 up-to-requires : tie.Need-up-to-requires
 up-to-requires c κs = search needs
 
--- src/lib.rt:67:31
 slice-read-wide : tie.Need-slice-read-wide
 slice-read-wide c = search needs
 
--- src/lib.rt:67:13
 wide-requires-2 : tie.Need-wide-requires-2
 wide-requires-2 c κs = search needs
 
--- src/lib.rt:68:13
 slice-write-out : tie.Need-slice-write-out
 slice-write-out c = search needs
 
--- src/lib.rt:69:13
 same-length : tie.Need-same-length
 same-length c = search needs
 
--- src/lib.rt:69:13
 returns : tie.Need-returns
 unfolding put1
 returns c = rw (← (c .before .before .before .up-to .ensures), ← (c .before .before .before .before .before .column-after .ensures), c .before .before .before .before .wide .ensures, c .wide2 .ensures)
 
--- src/lib.rt:56:5
 returns-2 : tie.Need-returns-2
 unfolding put1
 returns-2 c = rw (← (c .before .up-to .ensures), ← (c .before .before .before .column-after .ensures), c .before .before .wide .ensures, set-out _ _ _ (c .if1 .left), List·getD-eq-default _ _ (c .if1 .left))

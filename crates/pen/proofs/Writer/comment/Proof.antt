@@ -8,32 +8,25 @@ use borrow.Author.Needs.{needs}
 use Rattle.pen.proofs.Writer.comment.Statement.{statement}
 use Rattle.pen.proofs.Writer.comment.Tie as tie
 
--- src/lib.rt:132:20
 add-mark : tie.Need-add-mark
 add-mark c = search needs
 
--- src/lib.rt:134:13
 returns : tie.Need-returns
 unfolding noted
 returns c = rw (eq-eqb _ _ (c .if1 .taken))
 
--- src/lib.rt:136:34
 at-least-one-requires : tie.Need-at-least-one-requires
 at-least-one-requires c κs = search needs
 
--- src/lib.rt:136:13
 spaces-requires : tie.Need-spaces-requires
 spaces-requires c κs = search needs
 
--- src/lib.rt:137:13
 hashed-requires : tie.Need-hashed-requires
 hashed-requires c κs = search needs
 
--- src/lib.rt:128:5
 same-length : tie.Need-same-length
 same-length c = search needs
 
--- src/lib.rt:128:5
 returns-2 : tie.Need-returns-2
 unfolding noted inlineText withInline
 returns-2 c =

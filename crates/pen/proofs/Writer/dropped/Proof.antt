@@ -7,28 +7,22 @@ use borrow.Author.Needs.{needs}
 use Rattle.pen.proofs.Writer.dropped.Statement.{statement}
 use Rattle.pen.proofs.Writer.dropped.Tie as tie
 
--- src/lib.rt:160:19
 sub-len : tie.Need-sub-len
 sub-len c = search needs
 
--- src/lib.rt:161:21
 cast-under : tie.Need-cast-under
 cast-under c = search needs
 
--- src/lib.rt:164:13
 slice-write-out : tie.Need-slice-write-out
 slice-write-out c = search needs
 
--- src/lib.rt:156:5
 same-length : tie.Need-same-length
 same-length c = search needs
 
--- src/lib.rt:156:5
 returns : tie.Need-returns
 unfolding unput
 returns c = let e : c .before .before .before .args .self .under % 256 ≡ c .before .before .before .args .self .under = omega (arith, c .before .before .before .pre .1) in rw e
 
--- src/lib.rt:156:5
 returns-2 : tie.Need-returns-2
 unfolding unput
 returns-2 c = rw (set-out _ _ _ (c .if1 .left))

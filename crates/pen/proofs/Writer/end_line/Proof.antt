@@ -4,20 +4,16 @@ use borrow.Author.Needs.{needs}
 use Rattle.pen.proofs.Writer.end_line.Statement.{statement}
 use Rattle.pen.proofs.Writer.end_line.Tie as tie
 
--- src/lib.rt:109:13
 returns : tie.Need-returns
 unfolding lineEnded
 returns c = rw (eq-eqb _ _ (c .if1 .taken))
 
--- src/lib.rt:111:9
 byte-requires : tie.Need-byte-requires
 byte-requires c κs = search needs
 
--- src/lib.rt:104:5
 same-length : tie.Need-same-length
 same-length c = search needs
 
--- src/lib.rt:104:5
 returns-2 : tie.Need-returns-2
 unfolding lineEnded
 returns-2 c = rw (ne-eqb _ _ (c .before .before .before .before .if1 .left)) (c .before .before .byte .ensures)

@@ -4,30 +4,24 @@ use borrow.Author.Needs.{needs}
 use Rattle.pen.proofs.Writer.finish.Statement.{statement}
 use Rattle.pen.proofs.Writer.finish.Tie as tie
 
--- src/lib.rt:175:13
 returns : tie.Need-returns
 unfolding ended
 returns c = rw (eq-eqb _ _ (c .if1 .taken))
 
--- src/lib.rt:178:13
 returns-2 : tie.Need-returns-2
 unfolding ended
 returns-2 c = rw (ne-eqb _ _ (c .before .before .if1 .left), ne-eqb _ _ (c .if2 .taken))
 
--- src/lib.rt:181:13
 returns-3 : tie.Need-returns-3
 unfolding ended
 returns-3 c = rw (ne-eqb _ _ (c .before .before .before .before .if1 .left), eq-eqb _ _ (c .before .before .if2 .left), ne-eqb _ _ (c .if3 .taken))
 
--- src/lib.rt:183:9
 dropped-requires : tie.Need-dropped-requires
 dropped-requires c κs = search needs
 
--- src/lib.rt:170:5
 same-length : tie.Need-same-length
 same-length c = search needs
 
--- src/lib.rt:170:5
 returns-4 : tie.Need-returns-4
 unfolding ended
 returns-4 c = rw (ne-eqb _ _ (c .before .before .before .before .before .before .before .before .if1 .left), eq-eqb _ _ (c .before .before .before .before .before .before .if2 .left), eq-eqb _ _ (c .before .before .before .before .if3 .left)) (c .before .before .dropped .ensures)

@@ -5,32 +5,25 @@ use borrow.Author.Needs.{needs}
 use Rattle.pen.proofs.Writer.hashed.Statement.{statement}
 use Rattle.pen.proofs.Writer.hashed.Tie as tie
 
--- src/lib.rt:119:13
 byte-requires : tie.Need-byte-requires
 byte-requires c κs = search needs
 
--- src/lib.rt:121:13
 same-length : tie.Need-same-length
 same-length c = search needs
 
--- src/lib.rt:121:13
 returns : tie.Need-returns
 unfolding puts
 returns c = rw (hashed-nothing _ (c .if1 .taken)) (c .before .before .before .byte .ensures)
 
--- src/lib.rt:123:13
 byte-requires-2 : tie.Need-byte-requires-2
 byte-requires-2 c κs = search needs
 
--- src/lib.rt:124:9
 text-requires : tie.Need-text-requires
 text-requires c κs = search needs
 
--- src/lib.rt:115:5
 same-length-2 : tie.Need-same-length-2
 same-length-2 c = search needs
 
--- src/lib.rt:115:5
 returns-2 : tie.Need-returns-2
 unfolding puts
 returns-2 c = rw (hashed-text _ (c .before .before .before .before .before .before .before .before .if1 .left)) (c .before .before .text .ensures ∙ ap (puts (c .before .before .before .before .before .before .before .before .before .before .before .before .before .before .before .args .t .now)) (c .before .before .before .before .before .before .byte2 .ensures ∙ ap (λ (p : Pen). put1 p 32) (c .before .before .before .before .before .before .before .before .before .before .before .byte .ensures)))

@@ -7,35 +7,28 @@ use borrow.Author.Needs.{needs}
 use Rattle.pen.proofs.Writer.replay.Statement.{statement}
 use Rattle.pen.proofs.Writer.replay.Tie as tie
 
--- src/lib.rt:147:13
 text-requires : tie.Need-text-requires
 text-requires c κs = search needs
 
--- src/lib.rt:148:12
 ends-closed-requires : tie.Need-ends-closed-requires
 ends-closed-requires c κs = search needs
 
--- src/lib.rt:149:13
 same-length : tie.Need-same-length
 same-length c = search needs
 
--- src/lib.rt:149:13
 returns : tie.Need-returns
 unfolding rawed
 returns c = rw (← (c .before .ends-closed .ensures), c .if1 .taken) (c .before .before .before .before .text .ensures)
 
--- src/lib.rt:151:17
 add-w : tie.Need-add-w
 add-w c =
     let h = c .before .before .before .before .before .before .before .before .before .pre in
     let k : c .before .before .before .before .before .text .result .len ≤ 2 ^ 62 + 2 = rw (ap (λ (p : Pen). p .w .len) (c .before .before .before .before .before .text .ensures)) (puts-count _ _ (2 ^ 62 + 2) (omega arith) (omega arith)) in
     omega arith
 
--- src/lib.rt:143:5
 same-length-2 : tie.Need-same-length-2
 same-length-2 c = search needs
 
--- src/lib.rt:143:5
 returns-2 : tie.Need-returns-2
 unfolding rawed withRaw
 returns-2 c = rw (← (c .before .before .ends-closed .ensures), c .before .if1 .left) (ap (λ (p : Pen). pen (withRaw (p .w .len + 1) (p .w)) (p .out)) (c .before .before .before .before .before .text .ensures))

@@ -3,15 +3,12 @@ use borrow.Author.Needs.{needs}
 use Rattle.pen.proofs.Writer.spaces.Statement.{statement}
 use Rattle.pen.proofs.Writer.spaces.Tie as tie
 
--- src/lib.rt:109:9
 again-requires : tie.Need-again-requires
 again-requires c κs = search needs
 
--- src/lib.rt:105:5
 same-length : tie.Need-same-length
 same-length c = search needs
 
--- src/lib.rt:105:5
 returns : tie.Need-returns
 unfolding spaces
 returns c = c .before .before .again .ensures
