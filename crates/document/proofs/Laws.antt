@@ -43,7 +43,7 @@ use Rattle.layout.specs.Calm.{Calm, calm-further}
 use Rattle.layout.specs.Emitting.{drawn-first, drawn-last, calm-line, line-value}
 use Rattle.block.specs.Rows.{Footed}
 use Rattle.document.specs.Root.{calm-emits}
-use Rattle.document.specs.Pieces.{startIn, stopIn, plainIn, opened, frontIn, placedOf, leftAfter, placedFrom, blockRoot, lineRoot, rootOf, front-is}
+use Rattle.document.specs.Pieces.{startIn, stopIn, plainIn, opened, frontIn, placedOf, documentsLeft, placedFrom, blockRoot, lineRoot, rootOf, front-is}
 
 -- nothing stands before the root
 pub plain-opened : (deck pool : Bytes) (l : Lead) {P : Pen} → plainIn l ≡ true → Draws (opened deck pool l) P P
@@ -220,9 +220,9 @@ module _ (s : Settings) (deck pool : Bytes) where
 
   pub file-turn :
       (passed : Bool) (P₀ : Pen) (left₀ : ℕ) (here₀ : Cursor) (P Q : Pen) (first : Bool) (left : ℕ) (here next : Cursor) (n : ℕ) → Pending passed P₀ left₀ here₀ P first left here → 0 < left
-      → Emits s (placedOf s first passed (nodeAt deck pool here)) P Q (here .at) (nextAt deck pool here) next (length deck) → n ≡ leftAfter deck next left
+      → Emits s (placedOf s first passed (nodeAt deck pool here)) P Q (here .at) (nextAt deck pool here) next (length deck) → n ≡ documentsLeft deck next left
       → Pending passed P₀ left₀ here₀ Q false n next
-  unfolding ink placedFrom leftAfter
+  unfolding ink placedFrom documentsLeft
   file-turn passed P₀ left₀ here₀ P Q first zero here next n g l m e = absurd (omega arith)
   file-turn passed P₀ left₀ here₀ P Q first (suc k) here next n g l m e =
       let d = nextAt deck pool here in

@@ -76,8 +76,8 @@ module _ (s : Settings) where
     placedFrom passed first (suc n) c = placedOf first passed (nodeAt deck pool c) >> (if leb (length deck) (nextAt deck pool c .at) then nothing else placedFrom passed false n (nextAt deck pool c))
 
 -- how many are left after one that ends at a cursor
-unfoldable pub leftAfter : Bytes → Cursor → ℕ → ℕ
-leftAfter deck c n = if leb (length deck) (c .at) then 0 else n - 1
+unfoldable pub documentsLeft : Bytes → Cursor → ℕ → ℕ
+documentsLeft deck c n = if leb (length deck) (c .at) then 0 else n - 1
 
 -- ---- they are the definition's
 

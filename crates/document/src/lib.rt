@@ -24,7 +24,7 @@ ghost use Rattle.choices.specs.Choices.{includedIn};
 ghost use Rattle.joints.specs.Entries.{nodeAt, nextAt};
 ghost use Rattle.flow.specs.Ready.{Emits};
 ghost use Rattle.layout.specs.Calm.{Calm};
-ghost use Rattle.document.specs.Pieces.{bomIn, startIn, stopIn, plainIn, opened, separationIn, frontIn, placedOf, leftAfter, placedFrom, blockRoot, lineRoot, rootOf};
+ghost use Rattle.document.specs.Pieces.{bomIn, startIn, stopIn, plainIn, opened, separationIn, frontIn, placedOf, documentsLeft, placedFrom, blockRoot, lineRoot, rootOf};
 
 fn put_dashes(w: Writer, out: &mut [u8]) -> Writer
     requires { ⌜ length (now out) < 2 ^ 62 ⌝ }
@@ -233,9 +233,9 @@ fn put_document(
 }
 
 // How many documents are left after one that ends at a cursor: none at the deck's end.
-fn left_after(deck: &[u8], c: Cursor, left: usize) -> usize
+fn documents_left(deck: &[u8], c: Cursor, left: usize) -> usize
     requires { ⌜ 0 < left ⌝ }
-    ensures { λ r. ⌜ (r ≡ leftAfter (now (deck .entry)) c left) × (r < left) ⌝ }
+    ensures { λ r. ⌜ (r ≡ documentsLeft (now (deck .entry)) c left) × (r < left) ⌝ }
 {
     if deck.len() <= c.at {
         return 0;
@@ -266,7 +266,7 @@ fn put_documents(
         v = e.w;
         here = e.next;
         first = false;
-        left = left_after(deck, here, left);
+        left = documents_left(deck, here, left);
     }
     v
 }

@@ -18,14 +18,14 @@ loop-holds c = file-start _ _ _ _ _ _ _ (c .before .before .before .pre)
 put-document-requires : tie.Need-put-document-requires Inv-loop μ-loop
 put-document-requires c κs = c .before .before .loop .inv .calm
 
-left-after-requires : tie.Need-left-after-requires Inv-loop μ-loop
-left-after-requires c κs = search needs
+documents-left-requires : tie.Need-documents-left-requires Inv-loop μ-loop
+documents-left-requires c κs = search needs
 
 loop-less : tie.Need-loop-less Inv-loop μ-loop
-loop-less c = c .left-after .ensures .1
+loop-less c = c .documents-left .ensures .1
 
 loop-again : tie.Need-loop-again Inv-loop μ-loop
-loop-again c = file-turn _ _ _ _ _ _ _ _ _ _ _ _ _ _ (c .before .before .before .before .before .before .before .before .loop .inv) (c .before .before .before .before .before .before .before .loop-test .taken) (c .before .before .before .before .before .put-document .ensures) (c .left-after .ensures .0)
+loop-again c = file-turn _ _ _ _ _ _ _ _ _ _ _ _ _ _ (c .before .before .before .before .before .before .before .before .loop .inv) (c .before .before .before .before .before .before .before .loop-test .taken) (c .before .before .before .before .before .put-document .ensures) (c .documents-left .ensures .0)
 
 same-length : tie.Need-same-length Inv-loop μ-loop
 same-length c = c .before .loop .inv .size
@@ -34,4 +34,4 @@ returns : tie.Need-returns Inv-loop μ-loop
 returns c = file-end _ _ _ _ _ _ _ _ _ _ _ (c .before .loop .inv) (let z = c .loop-test .left in omega arith)
 
 pub put-documents-spec : {M : Type 1} → statement M
-put-documents-spec = tie.close (tie.spec Inv-loop μ-loop loop-holds put-document-requires left-after-requires loop-less loop-again same-length returns)
+put-documents-spec = tie.close (tie.spec Inv-loop μ-loop loop-holds put-document-requires documents-left-requires loop-less loop-again same-length returns)
