@@ -7,7 +7,7 @@ use mathlib.Core.Bool.{Bool, true, false}
 use lib.ListN.{length}
 use lib.Dec.{eqb}
 use Rattle.definition.specs.Base.{Bytes, if_then_else_}
-use Rattle.definition.specs.Ascii.{LF, SP, '-', '?'}
+use Rattle.definition.specs.Ascii.{SP, '-', '?'}
 use Rattle.definition.specs.Settings.{stepOf}
 use Rattle.definition.specs.Tree.{Node, kept}
 use Rattle.definition.specs.Pen.{mark, Script, nothing, sign}

@@ -90,6 +90,13 @@ pub has-props-is : (deck pool : Bytes) (l : Lead) → hasProps (broughtOf deck p
 unfolding hasProps broughtOf
 has-props-is deck pool l = rw (held-some, held-some)
 
+-- the properties of a node are its tag and its anchor
+pub of-props :
+    (deck pool : Bytes) (l : Lead) {P Q : Pen} → Draws (propsOf (heldOf deck pool (l .tag)) (heldOf deck pool (l .anchor))) P Q → Draws (props (broughtOf deck pool l)) P Q
+unfolding props propsOf broughtOf
+of-props deck pool l d = d
+
+-- where neither is there, nothing is drawn of them
 neither : (compact : Bool) (x y : Option Bytes) {P : Pen} → (isSome x || isSome y) ≡ false → Draws (propsBy compact x y) P P
 unfolding propsBy propsOf prop isSome
 neither true none none e = both nothing nothing stays stays
@@ -97,21 +104,14 @@ neither false none none e = both nothing nothing stays stays
 neither compact none (some t) e = absurd (true≢false e)
 neither compact (some t) y e = absurd (true≢false e)
 
--- neither a tag nor an anchor
 pub no-props :
     (deck pool : Bytes) (compact : Bool) (x y : Held) (b : Bool) {P : Pen} → b ≡ (hasHeld x || hasHeld y) → b ≡ false
     → Draws (propsBy compact (heldOf deck pool x) (heldOf deck pool y)) P P
 no-props deck pool compact x y b e f = neither compact (heldOf deck pool x) (heldOf deck pool y) (rw (held-some deck pool x, held-some deck pool y) (sym e ∙ f))
 
--- neither a tag nor an anchor, and no inline comment
+-- neither a tag nor an anchor is there, nor an inline comment
 unfoldable pub silentIn : Lead → Bool
 silentIn l = not (hasHeld (l .tag) || hasHeld (l .anchor)) && eqb (l .remark .at) 0
-
--- those of a node
-pub of-props :
-    (deck pool : Bytes) (l : Lead) {P Q : Pen} → Draws (propsOf (heldOf deck pool (l .tag)) (heldOf deck pool (l .anchor))) P Q → Draws (props (broughtOf deck pool l)) P Q
-unfolding props propsOf broughtOf
-of-props deck pool l d = d
 
 module _ (deck pool : Bytes) (i : ℕ) (s : Settings) where
   -- head comments that pass a test

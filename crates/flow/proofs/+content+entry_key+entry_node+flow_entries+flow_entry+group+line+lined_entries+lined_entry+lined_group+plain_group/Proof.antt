@@ -34,7 +34,7 @@ use Rattle.flow.proofs.plain_group.Reads as plain-group
 use Rattle.flow.proofs.+content+entry_key+entry_node+flow_entries+flow_entry+group+line+lined_entries+lined_entry+lined_group+plain_group.Lts-plain_group as plain-group-lts
 use Rattle.flow.proofs.+content+entry_key+entry_node+flow_entries+flow_entry+group+line+lined_entries+lined_entry+lined_group+plain_group.{statement}
 use Rattle.flow.proofs.+content+entry_key+entry_node+flow_entries+flow_entry+group+line+lined_entries+lined_entry+lined_group+plain_group.Tie.{close}
-use Rattle.flow.proofs.+content+entry_key+entry_node+flow_entries+flow_entry+group+line+lined_entries+lined_entry+lined_group+plain_group.Proof.Base.{μ-content, μ-entry-key, μ-flow-entries, μ-flow-entry, μ-group, μ-entry-node, μ-line, μ-lined-entries, μ-lined-entry, μ-lined-group, μ-plain-group, content-at, entry-key-at, entry-key-below, flow-entries-at, flow-entry-at, group-at, entry-node-at, entry-node-below, line-at, lined-entries-at, lined-entry-at, lined-entry-below, lined-group-at, plain-group-at, content-claims, entry-key-claims, flow-entries-claims, flow-entry-claims, group-claims, entry-node-claims, line-claims, lined-entry-claims, lined-group-claims, plain-group-claims}
+use Rattle.flow.proofs.+content+entry_key+entry_node+flow_entries+flow_entry+group+line+lined_entries+lined_entry+lined_group+plain_group.Proof.Base.{μ-content, μ-entry-key, μ-flow-entries, μ-flow-entry, μ-group, μ-entry-node, μ-line, μ-lined-entries, μ-lined-entry, μ-lined-group, μ-plain-group, content-at, entry-key-at, flow-entries-at, flow-entry-at, group-at, entry-node-at, line-at, lined-entries-at, lined-entry-at, lined-entry-below, lined-group-at, plain-group-at, content-claims, entry-key-claims, flow-entries-claims, flow-entry-claims, group-claims, entry-node-claims, line-claims, lined-entry-claims, lined-group-claims, plain-group-claims}
 use Rattle.flow.proofs.+content+entry_key+entry_node+flow_entries+flow_entry+group+line+lined_entries+lined_entry+lined_group+plain_group.Proof.Content.{content-enum-told, content-put-null-requires, content-enum-known-body, content-is-marked-requires, content-put-words-requires, content-enum-known-body-2, content-put-alias-requires, content-enum-known-body-3, content-add-with-flow, content-with-flow-requires, content-group-requires, content-back-requires, content-enum-known-body-4, content-add-with-flow-2, content-with-flow-requires-2, content-group-requires-2, content-back-requires-2, content-same-length, content-returns, content-same-length-2, content-returns-2, content-same-length-3, content-returns-3, content-same-length-4, content-returns-4, content-same-length-5, content-returns-5}
 use Rattle.flow.proofs.+content+entry_key+entry_node+flow_entries+flow_entry+group+line+lined_entries+lined_entry+lined_group+plain_group.Proof.EntryKey.{entry-key-entry-node-requires, entry-key-byte-requires, entry-key-same-length, entry-key-returns, entry-key-returns-2}
 use Rattle.flow.proofs.+content+entry_key+entry_node+flow_entries+flow_entry+group+line+lined_entries+lined_entry+lined_group+plain_group.Proof.FlowEntries.{flow-entries-Inv-loop, flow-entries-μ-loop, flow-entries-loop-holds, flow-entries-put-between-requires, flow-entries-flow-entry-requires, flow-entries-sub-left, flow-entries-loop-less, flow-entries-loop-again, flow-entries-same-length, flow-entries-returns}
