@@ -24,7 +24,7 @@ use Rattle.node.specs.declared.Remark.{Remark}
 use Rattle.node.specs.Total.{heldOf, remarkOf}
 use Rattle.laws.specs.Leaf.{scalarBytes}
 use Rattle.pen.specs.Pen.{Pen, put1, puts, rawed, ink}
-use Rattle.parts.specs.Draws.{Draws}
+use Rattle.pen.specs.Draws.{Draws}
 use Rattle.atoms.specs.Atoms.{on, numberOf, commented, freshIn, remark-some}
 
 take-short : (n : ℕ) (s : Bytes) → length (take n s) ≤ length s

@@ -1,6 +1,7 @@
 // What is written of a node without children: a null, an alias, a scalar that is replayed or written anew.
 use blocks::put_block_body;
 use blocks::put_header;
+use deck::is_marked;
 use definition::Lines;
 use definition::NullStyle;
 use definition::Settings;
@@ -9,7 +10,6 @@ use definition::Text;
 use definition::Words;
 use node::Held;
 use node::Remark;
-use parts::is_marked;
 use parts::put_remark;
 use pen::Writer;
 use scalar::put_scalar;
@@ -25,7 +25,7 @@ ghost use Rattle.definition.specs.Deck.{marked, words};
 ghost use Rattle.definition.specs.Walk.{isBlockStyle, replays};
 ghost use Rattle.node.specs.Total.{heldOf, remarkOf};
 ghost use Rattle.pen.specs.Pen.{pen, puts, ink};
-ghost use Rattle.parts.specs.Draws.{Draws};
+ghost use Rattle.pen.specs.Draws.{Draws};
 ghost use Rattle.atoms.specs.Atoms.{on, numberOf, nullIn, commented, freshIn};
 
 fn is_tilde(settings: Settings) -> bool

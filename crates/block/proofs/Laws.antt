@@ -16,7 +16,7 @@ use Rattle.definition.specs.declared.Cursor.{Cursor}
 use Rattle.definition.specs.declared.Settings.{Settings}
 use Rattle.node.specs.Total.{broughtOf}
 use Rattle.pen.specs.Pen.{Pen, put1, puts, ink}
-use Rattle.parts.specs.Draws.{Draws, of-byte}
+use Rattle.pen.specs.Draws.{Draws, of-byte}
 use Rattle.parts.specs.Lines.{before, breaks, colonOpen, dashOpen}
 use Rattle.spot.specs.declared.Body.{Body}
 use Rattle.spot.specs.declared.Body.the-variants as body

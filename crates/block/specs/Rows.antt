@@ -11,7 +11,7 @@ use Rattle.definition.specs.declared.Cursor.{Cursor}
 use Rattle.definition.specs.declared.Settings.{Settings}
 use Rattle.node.specs.Total.{itemsFrom, pairsFrom, treeAt}
 use Rattle.pen.specs.Pen.{Pen, ink}
-use Rattle.parts.specs.Draws.{Draws}
+use Rattle.pen.specs.Draws.{Draws}
 use Rattle.parts.specs.Lines.{headsOver, before, colonOpen, dashOpen}
 use Rattle.spot.specs.declared.Spot.{Spot}
 use Rattle.spot.specs.Spot.{keptIn, broughtIn, kindIn}

@@ -1,9 +1,9 @@
 // Nodes on lines of their own: block values, items, mappings, sequences. The second cycle of calls, above the one of content on one line.
+use comments::Entries;
 use definition::Cursor;
 use definition::Settings;
 use flow::Emitted;
 use joints::Manner;
-use parts::Entries;
 use pen::Writer;
 use spot::Spot;
 ghost use mathlib.Core.Path.{_≡_};
@@ -12,8 +12,8 @@ ghost use mathlib.Core.Bool.{true, false};
 ghost use lib.ListN.{length};
 ghost use Rattle.definition.specs.Walk.{value, dash, keyBelow, members};
 ghost use Rattle.pen.specs.Pen.{pen};
-ghost use Rattle.parts.specs.Draws.{Draws};
-ghost use Rattle.parts.specs.Runs.{Short};
+ghost use Rattle.pen.specs.Draws.{Draws};
+ghost use Rattle.comments.specs.Runs.{Short};
 ghost use Rattle.spot.specs.Spot.{kindIn, nodeIn, endIn, spotAt};
 ghost use Rattle.spot.specs.Good.{Good, countIn};
 ghost use Rattle.choices.specs.Choices.{blockIn};
@@ -58,7 +58,7 @@ pub fn with_foots(
         let w = e.w.anew();
         return Emitted { w, next };
     }
-    let w = parts::put_repeated(e.w, deck, pool, out, x.lead, Entries::Foots, k);
+    let w = comments::put_repeated(e.w, deck, pool, out, x.lead, Entries::Foots, k);
     Emitted { w, next }
 }
 
@@ -224,7 +224,7 @@ fn put_value(
     if choices::bare(settings, pool, x.lead.lines, x.lead.remark, body) {
         return layout::put_bare(w, deck, pool, out, x.lead, x.next);
     }
-    if parts::is_marked(x.lead.lines.marks, 2) {
+    if deck::is_marked(x.lead.lines.marks, 2) {
         return layout::put_below(w, deck, pool, out, settings, x, j);
     }
     let w1 = layout::put_pad(w, out, x.lead.lines.pad);
@@ -257,7 +257,7 @@ fn put_dash(
     if choices::bare(settings, pool, x.lead.lines, x.lead.remark, body) {
         return layout::put_bare(w1, deck, pool, out, x.lead, x.next);
     }
-    if parts::is_marked(x.lead.lines.marks, 2) {
+    if deck::is_marked(x.lead.lines.marks, 2) {
         return layout::put_below(w1, deck, pool, out, settings, x, j);
     }
     let w2 = layout::put_pad(w1, out, x.lead.lines.pad);

@@ -24,7 +24,7 @@ use Rattle.node.specs.declared.Remark.{Remark}
 use Rattle.node.specs.Comments.{commented, comments-are}
 use Rattle.definition.specs.Records.{includeAt}
 use Rattle.node.specs.Total.{Got, keptOf, broughtOf, originOf, itemsFrom, pairsFrom, treeAt}
-use Rattle.parts.specs.Runs.{hasHeld, held-some, has-props-is}
+use Rattle.parts.specs.Props.{hasHeld, held-some, has-props-is}
 use Rattle.spot.specs.declared.Body.{Body}
 use Rattle.spot.specs.declared.Body.the-variants.{Null, Scalar, Alias, Sequence, Mapping}
 use Rattle.spot.specs.declared.Spot.{Spot}

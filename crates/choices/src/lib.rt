@@ -1,5 +1,6 @@
 // The walk's tests on a node, and the columns that it chooses, from what the emitter takes of the node.
 use atoms::is_block_style;
+use deck::is_marked;
 use definition::Cursor;
 use definition::Form;
 use definition::Group;
@@ -13,7 +14,6 @@ use node::Lead;
 use node::Origin;
 use node::Remark;
 use parts::is_either;
-use parts::is_marked;
 use spot::Body;
 ghost use mathlib.Core.Path.{_≡_};
 ghost use mathlib.Core.Bool.{not, _&&_, _||_};
@@ -23,7 +23,7 @@ ghost use Rattle.definition.specs.Base.{isNil};
 ghost use Rattle.definition.specs.Settings.{stepOf, isEmptyStyle};
 ghost use Rattle.definition.specs.Deck.{words, marked};
 ghost use Rattle.definition.specs.Walk.{isBlockForm, isBlockStyle, isPlain};
-ghost use Rattle.parts.specs.Runs.{hasHeld};
+ghost use Rattle.parts.specs.Props.{hasHeld};
 ghost use Rattle.spot.specs.Good.{countIn};
 ghost use Rattle.atoms.specs.Atoms.{on};
 ghost use Rattle.choices.specs.Choices.{blockGroup, blockIn, sequenceIn, noneIn, emptyIn, needsIn, explicitIn, includedIn, editedIn, bareIn, flushIn, valueColumnIn, itemColumnIn, onDashLineIn, rootColumnIn, bareRootIn};

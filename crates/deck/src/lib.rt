@@ -16,7 +16,7 @@ ghost use mathlib.Core.Path.{_≡_};
 ghost use Prim.Native.Nat.{_+_, _<_, _≤_, _^_, min};
 ghost use lib.ListN.{length, take, drop};
 ghost use Rattle.definition.specs.Records.{byteAt, wordAt, textAt, styleOf, formOf, sideOf, fileAt, includeAt, headingAt, trailerAt, linesAt, wordsAt, groupAt, recordOf, kindAt, recordAt, sizeOf};
-ghost use Rattle.definition.specs.Deck.{isNode, words};
+ghost use Rattle.definition.specs.Deck.{isNode, words, marked};
 ghost use Rattle.deck.specs.Next.{nextOf, Referred, Within};
 ghost use Rattle.deck.specs.Kids.{kidsOf};
 
@@ -349,4 +349,12 @@ pub fn words_of(pool: &[u8], t: Text) -> &[u8]
     ensures { λ r. ⌜ now r ≡ words (now (pool .entry)) t ⌝ }
 {
     part(pool, t.from, t.len)
+}
+
+// A mark of the layout record.
+pub fn is_marked(marks: usize, m: usize) -> bool
+    requires { ⌜ 0 < m ⌝ }
+    ensures { λ r. ⌜ r ≡ marked marks m ⌝ }
+{
+    (marks / m) % 2 == 1
 }

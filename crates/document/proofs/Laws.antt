@@ -26,7 +26,7 @@ use Rattle.node.specs.Total.{runFrom, keptOf, originOf, remarkOf, treesFrom, tr
 use Rattle.node.specs.Ends.{Ends}
 use Rattle.pen.specs.Pen.{Pen, puts, ink}
 use Rattle.scripts.specs.Keep.{length-of}
-use Rattle.parts.specs.Draws.{Draws}
+use Rattle.pen.specs.Draws.{Draws}
 use Rattle.parts.specs.Lines.{directed}
 use Rattle.spot.specs.declared.Body.{Body}
 use Rattle.spot.specs.declared.Body.the-variants as body
@@ -269,9 +269,9 @@ module _ (s : Settings) (deck pool : Bytes) where
       (λ e. h (leb-false _ _ e))
 
   later : (n : ℕ) (c : Cursor) (P : Pen) → c .at < length deck → ink s (placedFrom s deck pool false false n c) P ≡ ink s (laterDocuments s (treesFrom deck pool n c)) P
-  unfolding ink laterDocuments placedFrom placedOf treesFrom
-  later zero c P h = refl
-  later (suc n) c P h = rw (lt-leb (length deck) (c .at) h) (rest-is n (nextAt deck pool c) (ink s (placedOf s false false (nodeAt deck pool c)) P) (later n (nextAt deck pool c) _))
+  unfolding ink laterDocuments placedFrom placedOf
+  later zero c P h = unfold treesFrom in refl
+  later (suc n) c P h = rw (trees-first n c h) (rest-is n (nextAt deck pool c) (ink s (placedOf s false false (nodeAt deck pool c)) P) (later n (nextAt deck pool c) _))
 
   pub all-whole : (n : ℕ) (c : Cursor) (P : Pen) → c .at ≡ 0 → n ≡ length deck → ink s (placedFrom s deck pool false true n c) P ≡ ink s (allDocuments s (treesOf deck pool)) P
   unfolding ink allDocuments placedFrom placedOf treesOf nothing puts

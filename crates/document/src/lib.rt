@@ -1,11 +1,11 @@
 // Documents: a root's body, a document with its directives and comments, one document, and all documents of a deck.
+use comments::Entries;
 use definition::Cursor;
 use definition::Settings;
 use flow::Emitted;
 use joints::Manner;
 use node::Lead;
 use node::Origin;
-use parts::Entries;
 use pen::Writer;
 use spot::Spot;
 ghost use mathlib.Core.Path.{_≡_};
@@ -16,8 +16,8 @@ ghost use Rattle.definition.specs.Document.{dashes, dots, oneDocument, allDocum
 ghost use Rattle.node.specs.Total.{treesOf};
 ghost use Rattle.pen.specs.Pen.{pen, ink, ended};
 ghost use Rattle.pen.specs.Shown.{fresh};
-ghost use Rattle.parts.specs.Draws.{Draws};
-ghost use Rattle.parts.specs.Runs.{Short};
+ghost use Rattle.pen.specs.Draws.{Draws};
+ghost use Rattle.comments.specs.Runs.{Short};
 ghost use Rattle.spot.specs.Spot.{endIn, spotAt};
 ghost use Rattle.spot.specs.Good.{Good, countIn};
 ghost use Rattle.choices.specs.Choices.{includedIn};
@@ -47,7 +47,7 @@ fn put_bom(w: Writer, out: &mut [u8], marks: usize) -> Writer
     requires { ⌜ length (now out) < 2 ^ 62 ⌝ }
     ensures { λ r. ⌜ Draws (bomIn marks) (pen w (now (out .entry))) (pen r (now (out .exit))) ⌝ }
 {
-    if parts::is_marked(marks, 64) {
+    if deck::is_marked(marks, 64) {
         return w.text(out, b"\xef\xbb\xbf");
     }
     w
@@ -58,7 +58,7 @@ fn put_start(w: Writer, out: &mut [u8], marks: usize) -> Writer
     requires { ⌜ length (now out) < 2 ^ 62 ⌝ }
     ensures { λ r. ⌜ Draws (startIn marks) (pen w (now (out .entry))) (pen r (now (out .exit))) ⌝ }
 {
-    if parts::is_marked(marks, 32) {
+    if deck::is_marked(marks, 32) {
         return put_dashes(w, out);
     }
     w
@@ -83,7 +83,7 @@ fn put_separation(w: Writer, out: &mut [u8], lead: Lead) -> Writer
     if lead.directives.count != 0 {
         return put_dots(w, out);
     }
-    if parts::is_marked(lead.lines.marks, 32) {
+    if deck::is_marked(lead.lines.marks, 32) {
         return w;
     }
     put_dashes(w, out)
@@ -99,7 +99,7 @@ fn is_plain(lead: Lead) -> bool
     if lead.heads.count != 0 {
         return false;
     }
-    !parts::is_marked(lead.lines.marks, 32)
+    !deck::is_marked(lead.lines.marks, 32)
 }
 
 // What stands before a document's root: one test first, so that where nothing does, no writer is copied.
@@ -110,9 +110,9 @@ fn put_opening(w: Writer, deck: &[u8], pool: &[u8], out: &mut [u8], lead: Lead) 
     if is_plain(lead) {
         return w;
     }
-    let w1 = parts::put_repeated(w, deck, pool, out, lead, Entries::Directives, 0);
+    let w1 = comments::put_repeated(w, deck, pool, out, lead, Entries::Directives, 0);
     let w2 = put_start(w1, out, lead.lines.marks);
-    parts::put_repeated(w2, deck, pool, out, lead, Entries::Heads, 0)
+    comments::put_repeated(w2, deck, pool, out, lead, Entries::Heads, 0)
 }
 
 // A root that is a block collection.

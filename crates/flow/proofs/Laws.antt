@@ -24,7 +24,7 @@ use Rattle.node.specs.Total.{keptOf, broughtOf, heldOf, remarkOf}
 use Rattle.pen.specs.declared.Writer.{Writer}
 use Rattle.pen.specs.Pen.{Pen, pen, put1, puts, ink}
 use Rattle.scripts.specs.Keep.{withFlow, withKey, ink-in-flow, ink-in-key, flow-of, key-of, length-of}
-use Rattle.parts.specs.Draws.{Draws}
+use Rattle.pen.specs.Draws.{Draws}
 use Rattle.spot.specs.declared.Body.the-variants as body
 use Rattle.spot.specs.declared.Spot.{Spot}
 use Rattle.spot.specs.Spot.{kindOf, endOf, keptIn, broughtIn, kindIn, endIn, nodeIn, spotAt, tree-value}

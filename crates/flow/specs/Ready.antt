@@ -13,7 +13,7 @@ use Rattle.definition.specs.declared.Cursor.{Cursor}
 use Rattle.definition.specs.declared.Settings.{Settings}
 use Rattle.pen.specs.Pen.{Pen, ink}
 use Rattle.scripts.specs.Keep.{Fit, length-of, ink-length, ink-flow, fit-of, withFlow, withKey, with-flow-fit, with-key-fit}
-use Rattle.parts.specs.Draws.{Draws}
+use Rattle.pen.specs.Draws.{Draws}
 use Rattle.spot.specs.declared.Spot.{Spot}
 use Rattle.spot.specs.Spot.{endIn, nodeIn, spotAt, tree-value, tree-end}
 use Rattle.spot.specs.Good.{spot-good}

@@ -88,7 +88,7 @@ fn content(
             Emitted { w: v, next }
         }
         Body::Scalar(told) => {
-            let modified = parts::is_marked(x.lead.lines.marks, 1);
+            let modified = deck::is_marked(x.lead.lines.marks, 1);
             let v = atoms::put_words(
                 w,
                 deck,

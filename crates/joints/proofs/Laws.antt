@@ -21,9 +21,9 @@ use Rattle.node.specs.declared.Lead.{Lead}
 use Rattle.node.specs.Ends.{Ends}
 use Rattle.node.specs.Total.{keptOf}
 use Rattle.pen.specs.Pen.{Pen, put1, puts}
-use Rattle.parts.specs.Draws.{Draws, both, stays, of-puts, of-byte}
-use Rattle.parts.specs.declared.Entries.the-variants.{Heads}
-use Rattle.parts.specs.Runs.{Short, repeated}
+use Rattle.pen.specs.Draws.{Draws, both, stays, of-puts, of-byte}
+use Rattle.comments.specs.declared.Entries.the-variants.{Heads}
+use Rattle.comments.specs.Runs.{Short, repeated}
 use Rattle.spot.specs.declared.Body.{Body}
 use Rattle.spot.specs.declared.Body.the-variants as body
 use Rattle.spot.specs.declared.Spot.{Spot}

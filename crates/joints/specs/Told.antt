@@ -7,7 +7,7 @@ use Rattle.definition.specs.Base.{Bytes}
 use Rattle.definition.specs.Walk.{colon}
 use Rattle.definition.specs.declared.Cursor.{Cursor}
 use Rattle.pen.specs.Pen.{Pen}
-use Rattle.parts.specs.Draws.{Draws}
+use Rattle.pen.specs.Draws.{Draws}
 use Rattle.spot.specs.declared.Body.{Body}
 use Rattle.spot.specs.Spot.{kindOf}
 use Rattle.joints.specs.Entries.{lastOf}

@@ -1,9 +1,9 @@
 // What stands around a node on its line, between and around the entries of a flow collection, and the marks of a run: in flow, in a key.
+use comments::Entries;
 use definition::Cursor;
 use definition::Settings;
 use node::Lead;
 use node::Remark;
-use parts::Entries;
 use pen::Writer;
 use spot::Body;
 use spot::Spot;
@@ -18,8 +18,8 @@ ghost use Rattle.definition.specs.Walk.{props};
 ghost use Rattle.node.specs.Total.{keptOf, remarkOf};
 ghost use Rattle.pen.specs.Pen.{pen, ink};
 ghost use Rattle.scripts.specs.Keep.{withFlow, withKey};
-ghost use Rattle.parts.specs.Draws.{Draws};
-ghost use Rattle.parts.specs.Runs.{Short};
+ghost use Rattle.pen.specs.Draws.{Draws};
+ghost use Rattle.comments.specs.Runs.{Short};
 ghost use Rattle.spot.specs.Spot.{keptIn, broughtIn, kindIn};
 ghost use Rattle.atoms.specs.Atoms.{on};
 ghost use Rattle.joints.specs.Told.{Colon, LastOf};
@@ -158,7 +158,7 @@ fn put_key_heads(
 {
     if pairs {
         let x = spot::spot_at(deck, c);
-        return parts::put_repeated(w, deck, pool, out, x.lead, Entries::Heads, i);
+        return comments::put_repeated(w, deck, pool, out, x.lead, Entries::Heads, i);
     }
     w
 }
@@ -189,7 +189,7 @@ pub fn put_lined_before(
     ensures { λ r. ⌜ Draws (linedBefore (now (deck .entry)) (now (pool .entry)) i pairs c (keptOf (now (deck .entry)) (now (pool .entry)) lead)) (pen w (now (out .entry))) (pen r (now (out .exit))) ⌝ }
 {
     let w1 = put_key_heads(w, deck, pool, out, pairs, c, i);
-    let w2 = parts::put_repeated(w1, deck, pool, out, lead, Entries::Heads, i);
+    let w2 = comments::put_repeated(w1, deck, pool, out, lead, Entries::Heads, i);
     w2.spaces(out, i)
 }
 

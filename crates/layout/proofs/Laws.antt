@@ -16,9 +16,9 @@ use Rattle.node.specs.declared.Lead.{Lead}
 use Rattle.node.specs.Ends.{Ends}
 use Rattle.node.specs.Total.{keptOf, broughtOf, originOf, remarkOf}
 use Rattle.pen.specs.Pen.{Pen, put1, puts, ink}
-use Rattle.parts.specs.Draws.{Draws, both, of-byte, of-puts}
+use Rattle.pen.specs.Draws.{Draws, both, of-byte, of-puts}
 use Rattle.parts.specs.Lines.{propsBy, directed, belowOpen, breaks}
-use Rattle.parts.specs.Runs.{hasHeld, no-props}
+use Rattle.parts.specs.Props.{hasHeld, no-props}
 use Rattle.spot.specs.declared.Spot.{Spot}
 use Rattle.spot.specs.Spot.{keptIn, broughtIn, endIn, nodeIn}
 use Rattle.atoms.specs.Atoms.{on}

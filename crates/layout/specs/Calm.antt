@@ -8,7 +8,7 @@ use Rattle.definition.specs.Pen.{Script}
 use Rattle.definition.specs.declared.Settings.{Settings}
 use Rattle.pen.specs.Pen.{Pen, ink}
 use Rattle.scripts.specs.Keep.{flow-of, key-of}
-use Rattle.parts.specs.Draws.{Draws}
+use Rattle.pen.specs.Draws.{Draws}
 use Rattle.flow.specs.Ready.{Ready, after}
 
 pub record Calm (s : Settings) (deck pool : Bytes) (P : Pen) (at i : ℕ) : Type 0 where

@@ -14,7 +14,7 @@ use Rattle.node.specs.declared.Remark.{Remark}
 use Rattle.node.specs.Total.{keptOf, broughtOf}
 use Rattle.pen.specs.Pen.{Pen}
 use Rattle.scripts.specs.Keep.{flow-of, key-of}
-use Rattle.parts.specs.Draws.{Draws}
+use Rattle.pen.specs.Draws.{Draws}
 use Rattle.spot.specs.declared.Body.{Body}
 use Rattle.spot.specs.declared.Body.the-variants as body
 use Rattle.spot.specs.declared.Spot.{Spot}

@@ -11,9 +11,9 @@ ghost use Rattle.definition.specs.Block.{leadsBlank, useLiteralBlock};
 ghost use Rattle.laws.specs.Places.{anyAt};
 ghost use Rattle.literal.specs.Unfit.{unfitAt};
 use chars::is_non_printable;
-use quoted::at_or;
-use quoted::is_c1;
-use quoted::is_non;
+use pieces::at_or;
+use pieces::is_c1;
+use pieces::is_non;
 
 // The text has a line break.
 fn has_break(t: &[u8]) -> bool

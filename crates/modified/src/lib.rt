@@ -1,10 +1,10 @@
 // The changed test: whether the file that a node is in changed at or below it, and which changed files stand there. A node's children stand
 // after it in the deck, so both walks recurse on them.
 use choices::is_included;
+use deck::is_marked;
 use definition::Cursor;
 use definition::File;
 use node::Origin;
-use parts::is_marked;
 use spot::Body;
 ghost use mathlib.Core.Path.{_≡_};
 ghost use mathlib.Core.Bool.{not, _&&_};

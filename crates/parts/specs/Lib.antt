@@ -1,3 +1,2 @@
-pub mod Draws
 pub mod Lines
-pub mod Runs
+pub mod Props

@@ -16,8 +16,9 @@ use Rattle.definition.specs.Fold.{Folding, size, breakable, breakableIn}
 use Rattle.laws.specs.Tests.{Every, more}
 use Rattle.laws.specs.Pieces.{Quote}
 use Rattle.laws.specs.Folded.{aheadOf, foldedOf, no-break}
-use Rattle.quoted.specs.Piece.{spell, beside, Stands, Own, folding}
-use Rattle.quoted.specs.declared.Piece.{Piece}
+use Rattle.pieces.specs.Piece.{spell, beside, Stands, Own}
+use Rattle.quoted.specs.Turns.{folding}
+use Rattle.pieces.specs.declared.Piece.{Piece}
 use Rattle.quoted.specs.declared.Fold.{Fold}
 
 -- what holds of a byte and the text after it holds at a place of a text

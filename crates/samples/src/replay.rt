@@ -1,6 +1,8 @@
 // The fixed list of cases, replayed through the public calls as C and Rust call them. docs/ORACLE.md has the list's form. A list is any bytes:
 // what lies past its end reads as 0, and a case that is cut off is not as expected.
 use answers::Answer;
+use coded::is_on;
+use coded::long;
 use rassemok::Options;
 ghost use Prim.Native.Nat.{_+_, _≤_, _<_, _^_};
 ghost use mathlib.Core.Path.{_≡_};
@@ -35,96 +37,7 @@ pub fn output_room() -> [u8; 1048577]
     [0; 1048577]
 }
 
-// The number of four bytes, low byte first.
-fn long(data: &[u8], at: usize) -> usize
-    requires { ⌜ at < 2 ^ 63 ⌝ }
-    ensures { λ r. ⌜ r < 2 ^ 32 ⌝ }
-{
-    deck::word(data, at) + 65536 * deck::word(data, at + 2)
-}
-
-// ---- FNV-1a of 64 bits
-
-fn wide(b: u8) -> u64 {
-    b as u64
-}
-
-// The product with the prime, 2^40 + 435, cut to 64 bits; no step of it wraps.
-fn turn(hash: u64, b: u8) -> u64 {
-    let mixed: u64 = hash ^ wide(b);
-    let high: u64 = mixed / 4294967296 % 4294967296;
-    let low: u64 = mixed % 4294967296;
-    let down: u64 = low * 435;
-    let up: u64 = (high * 435 + down / 4294967296 + low % 16777216 * 256) % 4294967296;
-    up * 4294967296 + down % 4294967296
-}
-
-fn hash(out: &[u8]) -> u64 {
-    let mut h: u64 = 0xcbf29ce484222325;
-    let mut i = 0;
-    while i < out.len() {
-        h = turn(h, out[i]);
-        i += 1;
-    }
-    h
-}
-
-// ---- runs
-
-// Puts a piece into the output, as far as there is room, and answers where it ends.
-fn copy(piece: &[u8], out: &mut [u8], to: usize) -> usize
-    requires { ⌜ to ≤ length (now out) ⌝ }
-    ensures { λ r. ⌜ r ≤ length (now (out .exit)) ⌝ }
-{
-    let mut i = 0;
-    while i < piece.len() {
-        if to + i == out.len() {
-            return out.len();
-        }
-        out[to + i] = piece[i];
-        i += 1;
-    }
-    to + i
-}
-
-fn repeat(piece: &[u8], times: usize, out: &mut [u8], to: usize) -> usize
-    requires { ⌜ to ≤ length (now out) ⌝ }
-    ensures { λ r. ⌜ r ≤ length (now (out .exit)) ⌝ }
-{
-    let mut left = times;
-    let mut end = to;
-    while left > 0 {
-        end = copy(piece, out, end);
-        left -= 1;
-    }
-    end
-}
-
-// What coded runs stand for: a piece's length, how often it stands there, and the piece.
-fn expand(coded: &[u8], out: &mut [u8]) -> usize
-    ensures { λ r. ⌜ r ≤ length (now (out .exit)) ⌝ }
-{
-    let mut at = 0;
-    let mut to = 0;
-    while at + 4 <= coded.len() {
-        let from = at + 4;
-        let end = from + deck::word(coded, at);
-        if end > coded.len() {
-            return to;
-        }
-        to = repeat(&coded[from..end], deck::word(coded, at + 2), out, to);
-        at = end;
-    }
-    to
-}
-
 // ---- a case, of which the slice begins with the head
-
-fn is_on(marks: usize, bit: usize) -> usize
-    requires { ⌜ 0 < bit ⌝ }
-{
-    marks / bit % 2
-}
 
 fn options_of(head: &[u8]) -> Options {
     let marks = deck::byte(head, 2);
@@ -167,22 +80,14 @@ fn same_answer(head: &[u8], a: Answer) -> bool {
     a.modified == (long(head, 52) != 0)
 }
 
-fn fill(out: &mut [u8]) {
-    let mut i = 0;
-    while i < out.len() {
-        out[i] = 0xaa;
-        i += 1;
-    }
-}
-
 // The call on deck and pool gives the answer that the case has, and leaves the output that it has.
 fn agrees(head: &[u8], deck: &[u8], pool: &[u8], out: &mut [u8]) -> bool {
-    fill(out);
+    coded::fill(out);
     let a = answer_of(head, deck, pool, out);
     if !same_answer(head, a) {
         return false;
     }
-    let h = hash(out);
+    let h = coded::hash(out);
     if h % 4294967296 != long(head, 56) as u64 {
         return false;
     }
@@ -200,8 +105,8 @@ fn holds(head: &[u8], deck: &mut [u8], pool: &mut [u8], out: &mut [u8]) -> bool 
     if room > out.len() {
         return false;
     }
-    let d = expand(&head[72..mid], deck);
-    let p = expand(&head[mid..end], pool);
+    let d = coded::expand(&head[72..mid], deck);
+    let p = coded::expand(&head[mid..end], pool);
     if d != long(head, 20) {
         return false;
     }

@@ -19,10 +19,10 @@ use definition::Settings;
 use definition::Style;
 use pen::Writer;
 use pen::at_least_one;
-use quoted::at_or;
+use pieces::at_or;
+use pieces::is_c1;
+use pieces::is_non;
 use quoted::has_breakable;
-use quoted::is_c1;
-use quoted::is_non;
 use quoted::put_styled;
 use quoted::will_fold;
 

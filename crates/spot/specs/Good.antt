@@ -18,7 +18,7 @@ use Rattle.node.specs.declared.Lead.{Lead}
 use Rattle.node.specs.declared.Run.{Run}
 use Rattle.node.specs.Head.{noLead, onto, addTo, headed, headFrom, headAt}
 use Rattle.node.specs.Fuel.{head-at-onward, next-within, collection}
-use Rattle.parts.specs.Runs.{Short}
+use Rattle.comments.specs.Runs.{Short}
 use Rattle.spot.specs.declared.Body.{Body}
 use Rattle.spot.specs.declared.Body.the-variants as body
 use Rattle.spot.specs.declared.Spot.{Spot}

@@ -1,6 +1,6 @@
 use Rattle.atoms.specs.Atoms.{commented}
 use Rattle.definition.specs.Pen.{text}
-use Rattle.parts.specs.Draws.{both, of-puts}
+use Rattle.pen.specs.Draws.{both, of-puts}
 use borrow.Author.Needs.{needs}
 use Rattle.atoms.proofs.put_commented.Statement.{statement}
 use Rattle.atoms.proofs.put_commented.Tie as tie

@@ -1,6 +1,6 @@
 use mathlib.Core.Path.{refl}
 use Rattle.definition.specs.Pen.{space, mark, indent, sign}
-use Rattle.parts.specs.Draws.{both, of-puts, of-byte}
+use Rattle.pen.specs.Draws.{both, of-puts, of-byte}
 use borrow.Author.Needs.{needs}
 use Rattle.block.proofs.with_colon.Statement.{statement}
 use Rattle.block.proofs.with_colon.Tie as tie

@@ -1,6 +1,6 @@
 use mathlib.Core.Path.{refl}
-use Rattle.parts.specs.declared.Entries.the-variants.{Foots}
-use Rattle.parts.specs.Runs.{runOf, repeated, none-repeated}
+use Rattle.comments.specs.declared.Entries.the-variants.{Foots}
+use Rattle.comments.specs.Runs.{runOf, repeated, none-repeated}
 use borrow.Author.Needs.{needs}
 use Rattle.block.proofs.with_foots.Statement.{statement}
 use Rattle.block.proofs.with_foots.Tie as tie

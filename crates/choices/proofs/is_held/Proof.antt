@@ -1,5 +1,5 @@
 use mathlib.Core.Path.{refl}
-use Rattle.parts.specs.Runs.{hasHeld}
+use Rattle.parts.specs.Props.{hasHeld}
 use Rattle.choices.proofs.is_held.Statement.{statement}
 use Rattle.choices.proofs.is_held.Tie as tie
 

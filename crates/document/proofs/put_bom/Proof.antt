@@ -1,7 +1,7 @@
 use mathlib.Core.Path.{sym, _∙_}
 use Rattle.definition.specs.Pen.{mark}
 use Rattle.document.specs.Pieces.{bomIn}
-use Rattle.parts.specs.Draws.{draws-yes, draws-no, stays, of-puts}
+use Rattle.pen.specs.Draws.{draws-yes, draws-no, stays, of-puts}
 use borrow.Author.Needs.{needs}
 use Rattle.document.proofs.put_bom.Statement.{statement}
 use Rattle.document.proofs.put_bom.Tie as tie

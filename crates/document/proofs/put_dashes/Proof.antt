@@ -1,6 +1,6 @@
 use Rattle.definition.specs.Document.{dashes}
 use Rattle.definition.specs.Pen.{mark, space, newline}
-use Rattle.parts.specs.Draws.{both, of-puts, of-byte}
+use Rattle.pen.specs.Draws.{both, of-puts, of-byte}
 use borrow.Author.Needs.{needs}
 use Rattle.document.proofs.put_dashes.Statement.{statement}
 use Rattle.document.proofs.put_dashes.Tie as tie

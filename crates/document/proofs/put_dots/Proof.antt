@@ -1,6 +1,6 @@
 use Rattle.definition.specs.Document.{dots}
 use Rattle.definition.specs.Pen.{mark, space, newline}
-use Rattle.parts.specs.Draws.{both, of-puts, of-byte}
+use Rattle.pen.specs.Draws.{both, of-puts, of-byte}
 use borrow.Author.Needs.{needs}
 use Rattle.document.proofs.put_dots.Statement.{statement}
 use Rattle.document.proofs.put_dots.Tie as tie

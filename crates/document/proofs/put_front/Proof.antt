@@ -1,4 +1,4 @@
-use Rattle.parts.specs.Draws.{draws-yes, draws-no}
+use Rattle.pen.specs.Draws.{draws-yes, draws-no}
 use Rattle.document.specs.Pieces.{frontIn}
 use borrow.Author.Needs.{needs}
 use Rattle.document.proofs.put_front.Statement.{statement}

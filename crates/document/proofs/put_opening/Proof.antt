@@ -1,8 +1,8 @@
 -- `document::put_opening` meets its contract.
 use mathlib.Core.Path.{sym, _∙_}
 use Rattle.node.specs.Total.{keptOf}
-use Rattle.parts.specs.Runs.{repeated}
-use Rattle.parts.specs.Draws.{both}
+use Rattle.comments.specs.Runs.{repeated}
+use Rattle.pen.specs.Draws.{both}
 use Rattle.document.specs.Pieces.{opened}
 use Rattle.document.proofs.Laws.{plain-opened}
 use borrow.Author.Needs.{needs}

@@ -4,7 +4,7 @@ use mathlib.Core.Path.{sym, _∙_}
 use borrow.Author.Tests.{eq-eqb, ne-eqb}
 use Rattle.atoms.specs.Atoms.{on}
 use Rattle.document.specs.Pieces.{separationIn}
-use Rattle.parts.specs.Draws.{draws-yes, draws-no, stays}
+use Rattle.pen.specs.Draws.{draws-yes, draws-no, stays}
 use borrow.Author.Needs.{needs}
 use Rattle.document.proofs.put_separation.Statement.{statement}
 use Rattle.document.proofs.put_separation.Tie as tie

@@ -1,6 +1,6 @@
 use mathlib.Core.Path.{sym, _∙_}
 use Rattle.document.specs.Pieces.{startIn}
-use Rattle.parts.specs.Draws.{draws-yes, draws-no, stays}
+use Rattle.pen.specs.Draws.{draws-yes, draws-no, stays}
 use borrow.Author.Needs.{needs}
 use Rattle.document.proofs.put_start.Statement.{statement}
 use Rattle.document.proofs.put_start.Tie as tie

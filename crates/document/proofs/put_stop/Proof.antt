@@ -1,5 +1,5 @@
 use Rattle.document.specs.Pieces.{stopIn}
-use Rattle.parts.specs.Draws.{draws-yes, draws-no, stays}
+use Rattle.pen.specs.Draws.{draws-yes, draws-no, stays}
 use borrow.Author.Needs.{needs}
 use Rattle.document.proofs.put_stop.Statement.{statement}
 use Rattle.document.proofs.put_stop.Tie as tie

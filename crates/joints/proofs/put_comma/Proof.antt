@@ -1,4 +1,4 @@
-use Rattle.parts.specs.Draws.{draws-yes, draws-no, stays, of-byte}
+use Rattle.pen.specs.Draws.{draws-yes, draws-no, stays, of-byte}
 use Rattle.definition.specs.Pen.{sign, mark}
 use borrow.Author.Needs.{needs}
 use Rattle.joints.proofs.put_comma.Statement.{statement}

@@ -1,7 +1,7 @@
 use borrow.Author.Tests.{eq-eqb, ne-eqb}
 use Rattle.joints.specs.Line.{dressed}
-use Rattle.parts.specs.Draws.{draws-yes, draws-no, stays}
-use Rattle.parts.specs.Runs.{of-props}
+use Rattle.pen.specs.Draws.{draws-yes, draws-no, stays}
+use Rattle.parts.specs.Props.{of-props}
 use borrow.Author.Needs.{needs}
 use Rattle.joints.proofs.put_dress.Statement.{statement}
 use Rattle.joints.proofs.put_dress.Tie as tie

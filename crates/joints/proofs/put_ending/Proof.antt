@@ -1,7 +1,7 @@
 use borrow.Author.Tests.{eq-eqb, ne-eqb}
 use Rattle.joints.specs.Line.{ending}
 use Rattle.node.specs.Total.{keptOf}
-use Rattle.parts.specs.Draws.{draws-yes, draws-no, stays, of-end}
+use Rattle.pen.specs.Draws.{draws-yes, draws-no, stays, of-end}
 use Rattle.parts.specs.Lines.{closes}
 use borrow.Author.Needs.{needs}
 use Rattle.joints.proofs.put_ending.Statement.{statement}

@@ -1,6 +1,6 @@
 use Rattle.joints.specs.Entries.{linedAfter}
 use Rattle.definition.specs.Pen.{space, newline}
-use Rattle.parts.specs.Draws.{both, of-byte}
+use Rattle.pen.specs.Draws.{both, of-byte}
 use borrow.Author.Needs.{needs}
 use Rattle.joints.proofs.put_lined_after.Statement.{statement}
 use Rattle.joints.proofs.put_lined_after.Tie as tie

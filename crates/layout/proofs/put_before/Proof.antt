@@ -1,5 +1,5 @@
 -- `layout::put_before` meets its contract.
-use Rattle.parts.specs.Draws.{draws-yes, draws-no, stays}
+use Rattle.pen.specs.Draws.{draws-yes, draws-no, stays}
 use borrow.Author.Needs.{needs}
 use Rattle.layout.proofs.put_before.Statement.{statement}
 use Rattle.layout.proofs.put_before.Tie as tie

@@ -1,7 +1,7 @@
 use Rattle.layout.proofs.Laws.{key-line-whole}
 use Rattle.definition.specs.Pen.{mark}
 use Rattle.flow.specs.Ready.{after-drawn}
-use Rattle.parts.specs.Draws.{of-byte}
+use Rattle.pen.specs.Draws.{of-byte}
 use Rattle.flow.specs.Hushed.{untold-in}
 use borrow.Author.Needs.{needs}
 use Rattle.layout.proofs.put_key_line.Statement.{statement}

@@ -1,5 +1,5 @@
 -- `parts::is_either` meets its contract.
-use Rattle.parts.specs.Runs.{hasHeld}
+use Rattle.parts.specs.Props.{hasHeld}
 use borrow.Author.Tests.{eq-eqb, ne-eqb}
 use Rattle.parts.proofs.is_either.Statement.{statement}
 use Rattle.parts.proofs.is_either.Tie as tie

@@ -1,5 +1,5 @@
 -- `parts::is_silent` meets its contract.
-use Rattle.parts.specs.Runs.{silentIn}
+use Rattle.parts.specs.Props.{silentIn}
 use borrow.Author.Needs.{needs}
 use Rattle.parts.proofs.is_silent.Statement.{statement}
 use Rattle.parts.proofs.is_silent.Tie as tie

@@ -3,7 +3,7 @@ use Rattle.definition.specs.Pen.{space, indent}
 use Rattle.definition.specs.Walk.{blanks}
 use Rattle.definition.specs.Deck.{layoutOf}
 use Rattle.node.specs.Total.{keptOf}
-use Rattle.parts.specs.Draws.{both, of-puts}
+use Rattle.pen.specs.Draws.{both, of-puts}
 use Rattle.parts.specs.Lines.{before}
 use borrow.Author.Needs.{needs}
 use Rattle.parts.proofs.put_before.Statement.{statement}

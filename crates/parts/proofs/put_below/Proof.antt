@@ -1,8 +1,8 @@
 use Rattle.parts.specs.Lines.{belowOpen}
-use Rattle.parts.specs.Runs.{repeated}
+use Rattle.comments.specs.Runs.{repeated}
 use Rattle.definition.specs.Pen.{space, indent}
 use Rattle.node.specs.Total.{keptOf}
-use Rattle.parts.specs.Draws.{both, of-puts}
+use Rattle.pen.specs.Draws.{both, of-puts}
 use borrow.Author.Needs.{needs}
 use Rattle.parts.proofs.put_below.Statement.{statement}
 use Rattle.parts.proofs.put_below.Tie as tie

@@ -1,5 +1,5 @@
 -- `parts::put_both` meets its contract.
-use Rattle.parts.specs.Draws.{both}
+use Rattle.pen.specs.Draws.{both}
 use Rattle.parts.specs.Lines.{propsOf, propsBy}
 use borrow.Author.Needs.{needs}
 use Rattle.parts.proofs.put_both.Statement.{statement}

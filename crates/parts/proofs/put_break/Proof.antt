@@ -1,7 +1,7 @@
 -- `parts::put_break` meets its contract.
 use Rattle.parts.specs.Lines.{breaks}
 use Rattle.definition.specs.Pen.{space, newline}
-use Rattle.parts.specs.Draws.{both, of-byte}
+use Rattle.pen.specs.Draws.{both, of-byte}
 use Rattle.parts.proofs.Laws.{silent-break}
 use borrow.Author.Needs.{needs}
 use Rattle.parts.proofs.put_break.Statement.{statement}

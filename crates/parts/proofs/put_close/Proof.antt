@@ -1,6 +1,6 @@
 -- `parts::put_close` meets its contract.
 use Rattle.parts.specs.Lines.{closes}
-use Rattle.parts.specs.Draws.{both, of-end}
+use Rattle.pen.specs.Draws.{both, of-end}
 use Rattle.parts.proofs.Laws.{no-remark}
 use borrow.Author.Needs.{needs}
 use Rattle.parts.proofs.put_close.Statement.{statement}

@@ -1,7 +1,7 @@
 use Rattle.parts.specs.Lines.{colonOpen}
-use Rattle.parts.specs.Runs.{repeated}
+use Rattle.comments.specs.Runs.{repeated}
 use Rattle.node.specs.Total.{keptOf}
-use Rattle.parts.specs.Draws.{both}
+use Rattle.pen.specs.Draws.{both}
 use borrow.Author.Needs.{needs}
 use Rattle.parts.proofs.put_colon_block.Statement.{statement}
 use Rattle.parts.proofs.put_colon_block.Tie as tie

@@ -1,6 +1,6 @@
 use Rattle.parts.specs.Lines.{dashOpen}
 use Rattle.node.specs.Total.{keptOf}
-use Rattle.parts.specs.Draws.{both}
+use Rattle.pen.specs.Draws.{both}
 use borrow.Author.Needs.{needs}
 use Rattle.parts.proofs.put_dash_block.Statement.{statement}
 use Rattle.parts.proofs.put_dash_block.Tie as tie

@@ -1,6 +1,6 @@
 use Rattle.parts.specs.Lines.{directed}
 use Rattle.definition.specs.Pen.{space, newline}
-use Rattle.parts.specs.Draws.{both, of-byte}
+use Rattle.pen.specs.Draws.{both, of-byte}
 use borrow.Author.Needs.{needs}
 use Rattle.parts.proofs.put_include_line.Statement.{statement}
 use Rattle.parts.proofs.put_include_line.Tie as tie

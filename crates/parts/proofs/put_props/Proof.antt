@@ -1,7 +1,7 @@
 -- `parts::put_props` meets its contract.
 use mathlib.Core.Bool.{false}
 use Rattle.parts.specs.Lines.{propsBy}
-use Rattle.parts.specs.Runs.{no-props}
+use Rattle.parts.specs.Props.{no-props}
 use borrow.Author.Needs.{needs}
 use Rattle.parts.proofs.put_props.Statement.{statement}
 use Rattle.parts.proofs.put_props.Tie as tie

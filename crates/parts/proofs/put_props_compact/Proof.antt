@@ -3,7 +3,7 @@ use mathlib.Core.Bool.{true}
 use Rattle.definition.specs.Walk.{propsCompact}
 use Rattle.node.specs.Total.{broughtOf}
 use Rattle.parts.specs.Lines.{propsBy}
-use Rattle.parts.specs.Runs.{no-props}
+use Rattle.parts.specs.Props.{no-props}
 use borrow.Author.Needs.{needs}
 use Rattle.parts.proofs.put_props_compact.Statement.{statement}
 use Rattle.parts.proofs.put_props_compact.Tie as tie

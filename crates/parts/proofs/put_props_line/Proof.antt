@@ -3,8 +3,8 @@ use Rattle.definition.specs.Walk.{propsLine}
 use Rattle.definition.specs.Pen.{space, newline}
 use Rattle.node.specs.Total.{broughtOf}
 use Rattle.parts.specs.Lines.{tagFirst}
-use Rattle.parts.specs.Runs.{has-props-is}
-use Rattle.parts.specs.Draws.{draws-yes, draws-no, stays, both, of-byte}
+use Rattle.parts.specs.Props.{has-props-is}
+use Rattle.pen.specs.Draws.{draws-yes, draws-no, stays, both, of-byte}
 use borrow.Author.Needs.{needs}
 use Rattle.parts.proofs.put_props_line.Statement.{statement}
 use Rattle.parts.proofs.put_props_line.Tie as tie

@@ -1,7 +1,7 @@
 -- `quoted::fold_gap` meets its contract.
 use mathlib.Core.Path.{_∙_}
 use native.Mathlib.Omega.{arith}
-use Rattle.quoted.specs.Piece.{folding}
+use Rattle.quoted.specs.Turns.{folding}
 use Rattle.quoted.proofs.Folds.{fold-broken, fold-kept}
 use borrow.Author.Needs.{needs}
 use Rattle.quoted.proofs.fold_gap.Statement.{statement}

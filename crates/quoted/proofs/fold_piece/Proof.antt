@@ -1,6 +1,6 @@
 -- `quoted::fold_piece` meets its contract.
 use native.Mathlib.Omega.{arith}
-use Rattle.quoted.proofs.Laws.{beside-few}
+use Rattle.pieces.specs.Piece.{beside-few}
 use Rattle.quoted.proofs.Folds.{fold-on}
 use borrow.Author.Needs.{needs}
 use Rattle.quoted.proofs.fold_piece.Statement.{statement}

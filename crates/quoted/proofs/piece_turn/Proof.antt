@@ -1,7 +1,8 @@
 -- `quoted::piece_turn` meets its contract.
 use native.Mathlib.Omega.{arith}
 use mathlib.Core.Path.{refl}
-use Rattle.quoted.proofs.Laws.{turn, turn-single, beside-few}
+use Rattle.quoted.proofs.Laws.{turn, turn-single}
+use Rattle.pieces.specs.Piece.{beside-few}
 use borrow.Author.Needs.{needs}
 use Rattle.quoted.proofs.piece_turn.Statement.{statement}
 use Rattle.quoted.proofs.piece_turn.Tie as tie

@@ -7,7 +7,7 @@ use native.Mathlib.Omega.{arith}
 use Rattle.laws.specs.Pieces.{quoteBy}
 use Rattle.laws.specs.Folded.{foldedOf}
 use Rattle.pen.specs.Pen.{pen, puts}
-use Rattle.quoted.specs.Piece.{folding}
+use Rattle.quoted.specs.Turns.{folding}
 use Rattle.quoted.proofs.put_folded.Statement.{statement}
 use Rattle.quoted.proofs.put_folded.Tie as tie
 

@@ -1,6 +1,6 @@
 -- `quoted::scan_turn` meets its contract.
 use native.Mathlib.Omega.{arith}
-use Rattle.quoted.proofs.Laws.{beside-few}
+use Rattle.pieces.specs.Piece.{beside-few}
 use Rattle.quoted.proofs.Folds.{measured-piece, measured-run}
 use borrow.Author.Needs.{needs}
 use Rattle.quoted.proofs.scan_turn.Statement.{statement}

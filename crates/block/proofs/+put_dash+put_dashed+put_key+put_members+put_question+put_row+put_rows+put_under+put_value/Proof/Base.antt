@@ -43,7 +43,7 @@ use Rattle.choices.proofs.step_of.Reads as step-of-reads
 use Rattle.choices.proofs.value_column.Reads as value-column-reads
 use Rattle.flow.proofs.line.Reads as line-reads
 use Rattle.choices.proofs.bare.Reads as bare-reads
-use Rattle.parts.proofs.is_marked.Reads as is-marked-reads
+use Rattle.deck.proofs.is_marked.Reads as is-marked-reads
 use Rattle.layout.proofs.put_bare.Reads as put-bare-reads
 use Rattle.layout.proofs.put_below.Reads as put-below-reads
 use Rattle.layout.proofs.put_before.Reads as put-before-reads

@@ -1,6 +1,6 @@
 use native.Mathlib.Omega.{arith}
 use Rattle.definition.specs.Pen.{mark}
-use Rattle.parts.specs.Draws.{of-byte}
+use Rattle.pen.specs.Draws.{of-byte}
 use Rattle.flow.specs.Ready.{after-drawn}
 use Rattle.layout.specs.Value.{value-bare, value-below, value-beside}
 use Rattle.layout.specs.Calm.{calm-drawn, calm-further, in-line}

@@ -1,7 +1,7 @@
 use native.Mathlib.Omega.{arith}
 use mathlib.Core.Path.{refl}
 use Rattle.definition.specs.Pen.{mark}
-use Rattle.parts.specs.Draws.{of-byte}
+use Rattle.pen.specs.Draws.{of-byte}
 use Rattle.layout.specs.Calm.{calm-drawn, calm-after, calm-inside}
 use Rattle.block.proofs.Laws.{deeper, dashed-on, dashed-under}
 use borrow.Author.Needs.{needs}

@@ -1,6 +1,6 @@
 use native.Mathlib.Omega.{arith}
 use Rattle.definition.specs.Pen.{mark}
-use Rattle.parts.specs.Draws.{of-byte}
+use Rattle.pen.specs.Draws.{of-byte}
 use Rattle.layout.specs.Calm.{calm-drawn, calm-after}
 use Rattle.block.proofs.Laws.{key-explicit, key-inline}
 use Rattle.flow.specs.Hushed.{untold-in}

@@ -54,7 +54,7 @@ use Rattle.joints.proofs.put_lined_after.Reads as put-lined-after-reads
 use Rattle.joints.proofs.put_lined_before.Reads as put-lined-before-reads
 use Rattle.joints.proofs.with_flow.Reads as with-flow-reads
 use Rattle.joints.proofs.with_key.Reads as with-key-reads
-use Rattle.parts.proofs.is_marked.Reads as is-marked-reads
+use Rattle.deck.proofs.is_marked.Reads as is-marked-reads
 use Rattle.pen.proofs.Writer.byte.Reads as byte-reads
 use Rattle.pen.proofs.Writer.spaces.Reads as spaces-reads
 use Rattle.spot.proofs.spot_at.Reads as spot-at-reads
