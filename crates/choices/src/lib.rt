@@ -61,13 +61,13 @@ pub fn is_block(body: Body) -> bool
     }
 }
 
-pub fn is_sequence(body: Body) -> bool
+fn is_sequence(body: Body) -> bool
     ensures { λ r. ⌜ r ≡ sequenceIn body ⌝ }
 {
     spot::case_of(body) == 3
 }
 
-pub fn is_null(body: Body) -> bool
+fn is_null(body: Body) -> bool
     ensures { λ r. ⌜ r ≡ noneIn body ⌝ }
 {
     spot::case_of(body) == 0
@@ -104,7 +104,7 @@ fn is_empty_plain(pool: &[u8], said: Words) -> bool
 }
 
 // A null, or a plain scalar of no bytes.
-pub fn is_empty_scalar(body: Body, pool: &[u8]) -> bool
+fn is_empty_scalar(body: Body, pool: &[u8]) -> bool
     ensures { λ r. ⌜ r ≡ emptyIn (now (pool .entry)) body ⌝ }
 {
     match body {

@@ -57,7 +57,7 @@ pub fn word(deck: &[u8], at: usize) -> usize
 }
 
 // The reference at a cursor. No other function reads one.
-pub fn text_at(deck: &[u8], c: Cursor) -> Reference
+fn text_at(deck: &[u8], c: Cursor) -> Reference
     requires { ⌜ c .at < 2 ^ 63 + 16 ⌝ }
     ensures { λ r. ⌜ Referred (now (deck .entry)) c r ⌝ }
 {

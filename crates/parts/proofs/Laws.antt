@@ -1,15 +1,16 @@
 -- Laws of parts that may be absent, for the functions that write them.
 use mathlib.Core.Path.{_≡_, refl, sym, ap, _∙_}
 use Prim.Native.Nat.{ℕ}
-use mathlib.Core.Bool.{Bool, true, not, _||_}
-use mathlib.Core.List.{[], _∷_, _++_}
+use mathlib.Core.Bool.{Bool, true, false, not, _||_}
+use mathlib.Core.List.{_∷_, _++_}
+use mathlib.Core.Option.{Option}
 use borrow.Author.Tests.{eq-eqb, ne-eqb, eqb-true, not-true}
-use Rattle.definition.specs.Base.{Bytes, isSome}
-use Rattle.definition.specs.Ascii.{LF, SP}
+use Rattle.definition.specs.Base.{Bytes}
+use Rattle.definition.specs.Ascii.{LF, SP, '&'}
 use Rattle.definition.specs.Records.{textAt, includeAt, trailerAt}
 use Rattle.definition.specs.Deck.{words, inlineOf, sourceOf}
 use Rattle.definition.specs.Pen.{put, comment, directive, nothing, space, newline}
-use Rattle.definition.specs.Walk.{prop, propsCompact, directiveOf}
+use Rattle.definition.specs.Walk.{prop, propsCompact, propsLine, directiveOf}
 use Rattle.definition.specs.declared.Include.{Include}
 use Rattle.definition.specs.declared.Text.{Text}
 use Rattle.definition.specs.declared.Trailer.{Trailer}
@@ -20,9 +21,9 @@ use Rattle.node.specs.declared.Origin.{Origin}
 use Rattle.node.specs.declared.Remark.{Remark}
 use Rattle.node.specs.Total.{heldOf, originOf, remarkOf, broughtOf}
 use Rattle.pen.specs.Pen.{Pen, put1, puts, and-then, noteOf, noted, ink}
-use Rattle.pen.specs.Draws.{Draws, both, of-byte}
-use Rattle.parts.specs.Lines.{propsBy, tagFirst, breaks}
-use Rattle.parts.specs.Props.{hasHeld, no-props, silentIn}
+use Rattle.pen.specs.Draws.{Draws, both, of-byte, draws-yes, draws-no, stays}
+use Rattle.parts.specs.Lines.{only, propsOf, propsBy, breaks}
+use Rattle.parts.specs.Props.{hasHeld, held-some, has-props-is, no-props, silentIn}
 
 pub no-remark : (deck pool : Bytes) (place : ℕ) (m : Remark) (P : Pen) → m .at ≡ 0 → Draws (comment place (remarkOf deck pool m)) P P
 unfolding ink noteOf remarkOf
@@ -66,11 +67,24 @@ unfolding ink directiveOf originOf sourceOf puts
 some-directive deck pool o i t u P Q R S e k f g x y z =
     record { drawn = λ s. rw (ne-eqb _ _ e, ← k, ← f, ← g) (and-then P t (SP ∷ u) x (z ∙ ap (puts u) y)) }
 
--- the tag before no anchor, and before one
-pub alone : (deck pool : Bytes) (l : Lead) (P Q : Pen) → l .anchor .at ≡ 0 → Draws (prop [] (heldOf deck pool (l .tag)) []) P Q → Draws (tagFirst (broughtOf deck pool l)) P Q
-unfolding tagFirst broughtOf isSome
-alone deck pool l P Q e d = unfold heldOf in rw (eq-eqb _ _ e) d
+-- a tag and an anchor, each after a space or each with one after it
+pub props-by : (compact : Bool) (t a : Option Bytes) {P Q R : Pen}
+    → Draws (prop (only compact SP ++ only false '&') t (only (not compact) SP)) P Q → Draws (prop (only compact SP ++ only true '&') a (only (not compact) SP)) Q R
+    → Draws (propsBy compact t a) P R
+unfolding propsBy propsOf
+props-by true t a d e = both _ _ d e
+props-by false t a d e = both _ _ d e
 
-pub followed : (deck pool : Bytes) (l : Lead) (P Q : Pen) → (l .anchor .at ≡ 0 → ⊥) → Draws (prop [] (heldOf deck pool (l .tag)) (SP ∷ [])) P Q → Draws (tagFirst (broughtOf deck pool l)) P Q
-unfolding tagFirst broughtOf isSome
-followed deck pool l P Q e d = unfold heldOf in rw (ne-eqb _ _ e) d
+-- a line of properties: a space follows the tag where an anchor does
+pub props-line :
+    (deck pool : Bytes) (l : Lead) (n r : Bool) {P Q R S : Pen} → r ≡ (hasHeld (l .tag) || hasHeld (l .anchor)) → r ≡ true → n ≡ hasHeld (l .anchor)
+    → Draws (prop (only false SP ++ only false '&') (heldOf deck pool (l .tag)) (only n SP)) P Q
+    → Draws (prop (only false SP ++ only true '&') (heldOf deck pool (l .anchor)) (only false SP)) Q R → S ≡ put1 R LF → Draws (propsLine (broughtOf deck pool l)) P S
+unfolding propsLine newline broughtOf
+props-line deck pool l n r e t k d f g =
+    draws-yes _ _ _ (has-props-is deck pool l ∙ sym e ∙ t)
+    (rw (held-some deck pool (l .anchor), ← k) (both _ _ d (both _ _ f (of-byte space LF g))))
+
+pub no-line : (deck pool : Bytes) (l : Lead) (r : Bool) {P : Pen} → r ≡ (hasHeld (l .tag) || hasHeld (l .anchor)) → r ≡ false → Draws (propsLine (broughtOf deck pool l)) P P
+unfolding propsLine
+no-line deck pool l r e t = draws-no _ _ _ (has-props-is deck pool l ∙ sym e ∙ t) stays

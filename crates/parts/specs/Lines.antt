@@ -3,11 +3,15 @@ use Prim.Native.Nat.{ℕ}
 use mathlib.Core.Bool.{Bool, true, false}
 use mathlib.Core.List.{[], _∷_}
 use mathlib.Core.Option.{Option}
-use Rattle.definition.specs.Base.{Bytes, if_then_else_, isSome}
+use Rattle.definition.specs.Base.{Bytes, if_then_else_}
 use Rattle.definition.specs.Ascii.{SP, '&'}
 use Rattle.definition.specs.Tree.{Source, Inline, Kept, Brought}
 use Rattle.definition.specs.Pen.{directive, Script, put, comment, endLine, _>>_, newline, indent}
 use Rattle.definition.specs.Walk.{blanks, heads, headsBelow, aboveDash, belowDash, prop, propsCompact, directiveOf}
+
+-- a byte, or none
+abbrev pub only : Bool → ℕ → Bytes
+only wanted b = if wanted then b ∷ [] else []
 
 -- a tag and an anchor, each with its space
 unfoldable pub propsOf : Option Bytes → Option Bytes → Script
@@ -17,10 +21,6 @@ propsOf t a = prop [] t (SP ∷ []) >> prop ('&' ∷ []) a (SP ∷ [])
 unfoldable pub propsBy : Bool → Option Bytes → Option Bytes → Script
 propsBy true t a = prop (SP ∷ []) t [] >> prop (SP ∷ '&' ∷ []) a []
 propsBy false t a = propsOf t a
-
--- the tag of a line of properties: a space where an anchor follows
-unfoldable pub tagFirst : Brought → Script
-tagFirst b = prop [] (b .tag) (if isSome (b .anchor) then SP ∷ [] else [])
 
 -- an include's directive, to the end of the line
 unfoldable pub directed : ℕ → Option Source → Option Inline → Script

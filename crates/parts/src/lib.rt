@@ -8,35 +8,49 @@ use pen::Writer;
 ghost use mathlib.Core.Path.{_≡_};
 ghost use Prim.Native.Nat.{_<_, _^_};
 ghost use mathlib.Core.Bool.{_||_};
+ghost use mathlib.Core.List.{_++_};
 ghost use lib.ListN.{length};
 ghost use Rattle.definition.specs.Pen.{put, comment, directive};
 ghost use Rattle.definition.specs.Walk.{prop, propsCompact, propsLine, directiveOf};
 ghost use Rattle.node.specs.Total.{heldOf, originOf, remarkOf, keptOf, broughtOf};
-ghost use Rattle.pen.specs.Pen.{pen};
+ghost use Rattle.pen.specs.Pen.{pen, puts};
 ghost use Rattle.pen.specs.Draws.{Draws};
 ghost use Rattle.comments.specs.Runs.{Short};
 ghost use Rattle.parts.specs.Props.{hasHeld, silentIn};
-ghost use Rattle.parts.specs.Lines.{propsBy, propsOf, tagFirst, directed, breaks, closes, headsOver, before, belowOpen, colonOpen, dashOpen};
+ghost use Rattle.parts.specs.Lines.{only, propsBy, propsOf, directed, breaks, closes, headsOver, before, belowOpen, colonOpen, dashOpen};
 
-// A tag or an anchor that is there, with what stands before and after it.
+// A byte, where it is wanted.
+fn put_if(w: Writer, out: &mut [u8], wanted: bool, b: u8) -> Writer
+    requires { ⌜ length (now out) < 2 ^ 62 ⌝ }
+    ensures { λ r. ⌜ pen r (now (out .exit)) ≡ puts (only wanted b) (pen w (now (out .entry))) ⌝ }
+{
+    if wanted {
+        return w.byte(out, b);
+    }
+    w
+}
+
+// A tag, or an anchor with its `&`, that is there: after a space or not, with a space after it or not.
 fn put_prop(
     w: Writer,
     deck: &[u8],
     pool: &[u8],
     out: &mut [u8],
-    before: &[u8],
+    spaced: bool,
+    anchor: bool,
     h: Held,
-    after: &[u8],
+    ended: bool,
 ) -> Writer
     requires { ⌜ length (now out) < 2 ^ 62 ⌝ }
-    ensures { λ r. ⌜ Draws (prop (now (before .entry)) (heldOf (now (deck .entry)) (now (pool .entry)) h) (now (after .entry))) (pen w (now (out .entry))) (pen r (now (out .exit))) ⌝ }
+    ensures { λ r. ⌜ Draws (prop (only spaced 32 ++ only anchor 38) (heldOf (now (deck .entry)) (now (pool .entry)) h) (only ended 32)) (pen w (now (out .entry))) (pen r (now (out .exit))) ⌝ }
 {
     if h.at == 0 {
         return w;
     }
-    let w1 = w.text(out, before);
-    let w2 = w1.text(out, deck::words_of(pool, deck::text_in(deck, h.at)));
-    w2.text(out, after)
+    let w1 = put_if(w, out, spaced, b' ');
+    let w2 = put_if(w1, out, anchor, b'&');
+    let w3 = w2.text(out, deck::words_of(pool, deck::text_in(deck, h.at)));
+    put_if(w3, out, ended, b' ')
 }
 
 // A tag and an anchor, where they are there: each after a space, or each with a space after it.
@@ -52,12 +66,9 @@ fn put_both(
     requires { ⌜ length (now out) < 2 ^ 62 ⌝ }
     ensures { λ r. ⌜ Draws (propsBy compact (heldOf (now (deck .entry)) (now (pool .entry)) tag) (heldOf (now (deck .entry)) (now (pool .entry)) anchor)) (pen w (now (out .entry))) (pen r (now (out .exit))) ⌝ }
 {
-    if compact {
-        let w1 = put_prop(w, deck, pool, out, b" ", tag, b"");
-        return put_prop(w1, deck, pool, out, b" &", anchor, b"");
-    }
-    let w1 = put_prop(w, deck, pool, out, b"", tag, b" ");
-    put_prop(w1, deck, pool, out, b"&", anchor, b" ")
+    let ended = !compact;
+    let w1 = put_prop(w, deck, pool, out, compact, false, tag, ended);
+    put_prop(w1, deck, pool, out, compact, true, anchor, ended)
 }
 
 // `emit_anchor_tag`. Most nodes have neither: that is tested here, so that the writer is not handed on for nothing.
@@ -99,26 +110,15 @@ pub fn is_either(tag: Held, anchor: Held) -> bool
     anchor.at != 0
 }
 
-// The tag, and a space where an anchor follows.
-fn put_tag_first(w: Writer, deck: &[u8], pool: &[u8], out: &mut [u8], lead: Lead) -> Writer
-    requires { ⌜ length (now out) < 2 ^ 62 ⌝ }
-    ensures { λ r. ⌜ Draws (tagFirst (broughtOf (now (deck .entry)) (now (pool .entry)) lead)) (pen w (now (out .entry))) (pen r (now (out .exit))) ⌝ }
-{
-    let anchor = lead.anchor;
-    if anchor.at == 0 {
-        return put_prop(w, deck, pool, out, b"", lead.tag, b"");
-    }
-    put_prop(w, deck, pool, out, b"", lead.tag, b" ")
-}
-
 // `emit_anchor_tag_line`
 pub fn put_props_line(w: Writer, deck: &[u8], pool: &[u8], out: &mut [u8], lead: Lead) -> Writer
     requires { ⌜ length (now out) < 2 ^ 62 ⌝ }
     ensures { λ r. ⌜ Draws (propsLine (broughtOf (now (deck .entry)) (now (pool .entry)) lead)) (pen w (now (out .entry))) (pen r (now (out .exit))) ⌝ }
 {
     if is_either(lead.tag, lead.anchor) {
-        let w1 = put_tag_first(w, deck, pool, out, lead);
-        let w2 = put_prop(w1, deck, pool, out, b"&", lead.anchor, b"");
+        let both = lead.anchor.at != 0;
+        let w1 = put_prop(w, deck, pool, out, false, false, lead.tag, both);
+        let w2 = put_prop(w1, deck, pool, out, false, true, lead.anchor, false);
         return w2.byte(out, b'\n');
     }
     w
@@ -190,7 +190,7 @@ fn is_silent(lead: Lead) -> bool
 }
 
 // The properties and the inline comment of what stands below, to the end of the line. Mostly there is neither: that is tested first.
-pub fn put_break(
+fn put_break(
     w: Writer,
     deck: &[u8],
     pool: &[u8],

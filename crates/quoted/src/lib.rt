@@ -281,7 +281,7 @@ fn put_quoted(w: Writer, out: &mut [u8], t: &[u8], single: bool) -> Writer
 }
 
 // A text in quotes, folded: continued lines stand at the quote's column, but never at 0.
-pub fn put_quoted_folded(
+fn put_quoted_folded(
     w: Writer,
     out: &mut [u8],
     settings: Settings,

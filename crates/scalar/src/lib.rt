@@ -147,7 +147,7 @@ fn too_long(settings: Settings, key: bool, t: &[u8], column: usize) -> bool
 }
 
 // A plain scalar is quoted.
-pub fn must_quote(settings: Settings, flow: bool, key: bool, t: &[u8], column: usize) -> bool
+fn must_quote(settings: Settings, flow: bool, key: bool, t: &[u8], column: usize) -> bool
     requires { ⌜ (length (now t) ≤ 65536) × (column < 2 ^ 63) ⌝ }
     ensures { λ r. ⌜ r ≡ mustQuote settings flow key (now (t .entry)) column ⌝ }
 {
