@@ -24,7 +24,7 @@ ghost use Rattle.definition.specs.Scalar.{markerOf};
 ghost use Rattle.definition.specs.Deck.{marked, words};
 ghost use Rattle.definition.specs.Walk.{isBlockStyle, replays};
 ghost use Rattle.node.specs.Total.{heldOf, remarkOf};
-ghost use Rattle.pen.specs.Pen.{pen, puts, ink};
+ghost use Rattle.pen.specs.Pen.{fields, pen, puts, ink};
 ghost use Rattle.pen.specs.Draws.{Draws};
 ghost use Rattle.atoms.specs.Atoms.{on, numberOf, nullIn, commented, freshIn};
 
@@ -143,11 +143,11 @@ fn put_fresh(
 ) -> Writer
     requires { ⌜ (length (now out) < 2 ^ 62) × (length (now pool) ≤ 65536) × (place < 2 ^ 62) × (w .column < 2 ^ 63) ⌝ }
     ensures { λ r. ⌜ pen r (now (out .exit)) ≡ ink settings
-        (freshIn (on (w .flow)) (on (w .key)) i place (remarkOf (now (deck .entry)) (now (pool .entry)) remark) (words (now (pool .entry)) (said .text)) (said .style))
+        (freshIn (on (fields w .flow)) (on (fields w .key)) i place (remarkOf (now (deck .entry)) (now (pool .entry)) remark) (words (now (pool .entry)) (said .text)) (said .style))
         (pen w (now (out .entry))) ⌝ }
 {
-    let flow = w.flow != 0;
-    let key = w.key != 0;
+    let flow = w.flow() != 0;
+    let key = w.key() != 0;
     let style = said.style;
     let t = deck::words_of(pool, said.text);
     if is_on_header(remark, style, flow) {
@@ -183,7 +183,7 @@ pub fn put_words(
     requires { ⌜ (length (now out) < 2 ^ 62) × (length (now pool) ≤ 65536) × (place < 2 ^ 62) × (w .column < 2 ^ 63) × (w .len < 2 ^ 62) ⌝ }
     ensures { λ r. ⌜ pen r (now (out .exit)) ≡ ink settings
         (replays place (heldOf (now (deck .entry)) (now (pool .entry)) raw) modified
-        (freshIn (on (w .flow)) (on (w .key)) i place (remarkOf (now (deck .entry)) (now (pool .entry)) remark) (words (now (pool .entry)) (said .text)) (said .style)))
+        (freshIn (on (fields w .flow)) (on (fields w .key)) i place (remarkOf (now (deck .entry)) (now (pool .entry)) remark) (words (now (pool .entry)) (said .text)) (said .style)))
         (pen w (now (out .entry))) ⌝ }
 {
     if is_replayed(raw, modified) {

@@ -225,7 +225,8 @@ fn put_value(
         return layout::put_bare(w, deck, pool, out, x.lead, x.next);
     }
     if deck::is_marked(x.lead.lines.marks, 2) {
-        return layout::put_below(w, deck, pool, out, settings, x, j);
+        let u = w.anew();
+        return layout::put_below(u, deck, pool, out, settings, x, j);
     }
     let w1 = layout::put_pad(w, out, x.lead.lines.pad);
     flow::line(w1, deck, pool, out, settings, x, j, Manner::Value, false)
@@ -258,7 +259,8 @@ fn put_dash(
         return layout::put_bare(w1, deck, pool, out, x.lead, x.next);
     }
     if deck::is_marked(x.lead.lines.marks, 2) {
-        return layout::put_below(w1, deck, pool, out, settings, x, j);
+        let u = w1.anew();
+        return layout::put_below(u, deck, pool, out, settings, x, j);
     }
     let w2 = layout::put_pad(w1, out, x.lead.lines.pad);
     flow::line(w2, deck, pool, out, settings, x, j, Manner::Value, false)

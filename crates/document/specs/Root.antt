@@ -1,15 +1,15 @@
 -- At a document's root: the columns that it may take, and how a run begins.
 use mathlib.Core.Path.{refl}
-use Prim.Native.Nat.{ℕ, _<_, _≤_}
+use Prim.Native.Nat.{ℕ, _≤_}
 use native.Mathlib.Omega.{arith}
-use lib.ListN.{length, getD}
+use lib.ListN.{length}
 use Rattle.definition.specs.Base.{Bytes}
 use Rattle.definition.specs.Pen.{Script}
 use Rattle.definition.specs.declared.Cursor.{Cursor}
 use Rattle.definition.specs.declared.Settings.{Settings}
-use Rattle.pen.specs.Pen.{Pen, pen}
-use Rattle.pen.specs.Shown.{fresh}
-use Rattle.scripts.specs.Keep.{fresh-fit}
+use Rattle.pen.specs.Pen.{Pen, page}
+use Rattle.pen.specs.Shown.{begun}
+use Rattle.scripts.specs.Keep.{begun-fit}
 use Rattle.flow.specs.Ready.{Emits}
 use Rattle.layout.specs.Calm.{Calm, in-line, calm-after, calm-further}
 
@@ -26,10 +26,10 @@ module _ {s : Settings} {deck pool : Bytes} where
 
 -- a new writer, at the deck's beginning
 pub begin :
-    (s : Settings) (deck pool out : Bytes) (k : ℕ) → length deck ≤ 65536 → length pool ≤ 65536 → length out ≤ 1048576 → s .indent ≤ 16
-    → ((i : ℕ) → getD out i 0 < 256) → Calm s deck pool (pen (fresh k 0 0) out) 0 0
-unfolding fresh
-begin s deck pool out k d p o i b =
+    (s : Settings) (deck pool out : Bytes) → length deck ≤ 65536 → length pool ≤ 65536 → length out ≤ 1048576 → s .indent ≤ 16
+    → Calm s deck pool (page (begun s) out) 0 0
+unfolding begun
+begin s deck pool out d p o i =
     record {
       ready = record {
         deck-small = d;
@@ -39,7 +39,7 @@ begin s deck pool out k d p o i b =
         here = omega arith;
         indent = omega (arith, d);
         flow = omega (arith, d);
-        fit = fresh-fit k 0 0 out b;
+        fit = begun-fit s out;
       };
       column = omega (arith, d);
       flow = refl;

@@ -9,13 +9,13 @@ use node::Origin;
 use pen::Writer;
 use spot::Spot;
 ghost use mathlib.Core.Path.{_≡_};
-ghost use Prim.Native.Nat.{_<_, _^_};
+ghost use Prim.Native.Nat.{_<_, _^_, _/_, _%_};
 ghost use mathlib.Core.Bool.{true, not, _&&_};
 ghost use lib.ListN.{length};
 ghost use Rattle.definition.specs.Document.{dashes, dots, oneDocument, allDocuments};
 ghost use Rattle.node.specs.Total.{treesOf};
-ghost use Rattle.pen.specs.Pen.{pen, ink, ended};
-ghost use Rattle.pen.specs.Shown.{fresh};
+ghost use Rattle.pen.specs.Pen.{fields, pen, ink, ended};
+ghost use Rattle.pen.specs.Shown.{keeps, begun};
 ghost use Rattle.pen.specs.Draws.{Draws};
 ghost use Rattle.comments.specs.Runs.{Short};
 ghost use Rattle.spot.specs.Spot.{endIn, spotAt};
@@ -271,20 +271,27 @@ fn put_documents(
     v
 }
 
-// A writer that has written nothing. Columns are kept where lines are folded.
+// The mode of a new writer: columns are kept where lines are folded.
+fn first_mode(width: usize) -> usize
+    ensures { λ r. ⌜ (r / 4 ≡ 0) × (r / 2 % 2 ≡ keeps width) × (r % 2 ≡ 0) ⌝ }
+{
+    if width == 0 {
+        return 0;
+    }
+    2
+}
+
+// A writer that has written nothing.
 pub fn fresh_writer(settings: Settings) -> Writer
-    ensures { λ r. ⌜ r ≡ fresh (settings .width) 0 0 ⌝ }
+    ensures { λ r. ⌜ fields r ≡ begun settings ⌝ }
 {
     Writer {
         len: 0,
-        last: 0,
-        under: 0,
-        column: 0,
-        tracks: settings.width,
-        flow: 0,
-        key: 0,
-        inline: 0,
         raw: 0,
+        edge: 0,
+        inline: 0,
+        column: 0,
+        mode: first_mode(settings.width),
     }
 }
 

@@ -21,8 +21,8 @@ use Rattle.definition.specs.declared.Settings.{Settings}
 use Rattle.definition.specs.declared.File.{File}
 use Rattle.definition.specs.declared.File.the-variants.{Absent, Id}
 use Rattle.pen.specs.declared.Writer.{Writer}
-use Rattle.pen.specs.Pen.{Pen, pen, unput, ended, ink}
-use Rattle.pen.specs.Shown.{fresh}
+use Rattle.pen.specs.Pen.{Fields, Pen, fields, page, pen, unput, ended, ink}
+use Rattle.pen.specs.Shown.{begun}
 use Rattle.scripts.specs.Keep.{ink-length, ink-fit}
 use Rattle.modified.specs.Files as modified
 use Rattle.joints.specs.Entries.{nodeAt}
@@ -105,13 +105,12 @@ plain-step s e = rw (ap (λ (x : Settings). x .indent) e) (omega arith)
 
 -- a file's writer begins
 pub file-calm :
-    (deck pool out : Bytes) (start : ℕ) (c : Cursor) (s : Settings) (w : Writer) → s ≡ plainSettings → w ≡ fresh (s .width) 0 0
-    → length deck ≤ 65536 → length pool ≤ 65536 → length out ≤ 1048576 → c .at ≤ length deck → ((i : ℕ) → getD out i 0 < 256)
+    (deck pool out : Bytes) (start : ℕ) (c : Cursor) (s : Settings) (w : Writer) → s ≡ plainSettings → fields w ≡ begun s
+    → length deck ≤ 65536 → length pool ≤ 65536 → length out ≤ 1048576 → c .at ≤ length deck
     → Calm s deck pool (pen w (part start out)) (c .at) 0
-file-calm deck pool out start c s w e f d p o k b =
+file-calm deck pool out start c s w e f d p o k =
     let l : length (drop start out) ≤ 1048576 = rw (length-drop start out) (omega (arith, o)) in
-    let r : (i : ℕ) → getD (drop start out) i 0 < 256 = λ i. rw (getD-drop start out i 0) (b (start + i)) in
-    rw (part-to-end out start, f) (calm-further (begin s deck pool (drop start out) (s .width) d p l (plain-step s e) r) (c .at) (omega arith) k)
+    rw (part-to-end out start, f) (calm-further (begin s deck pool (drop start out) d p l (plain-step s e)) (c .at) (omega arith) k)
 
 -- and ends: it wrote at most two bytes more than there is room for
 ended-len : (p : Pen) → ended p .w .len ≤ p .w .len
@@ -125,9 +124,9 @@ ended-len p = go (eqb (p .w .raw) 0) (eqb (p .w .len) (p .w .raw)) (eqb (p .w .l
     go false true false = omega arith
 
 pub file-len :
-    {s : Settings} {deck pool : Bytes} {w : Writer} {at : ℕ} (out : Bytes) (start : ℕ) (a : Script) (v : Writer) (to : Bytes) → Calm s deck pool (pen w (part start out)) at 0
+    {s : Settings} {deck pool : Bytes} {at : ℕ} (w : Writer) (out : Bytes) (start : ℕ) (a : Script) (v : Writer) (to : Bytes) → Calm s deck pool (pen w (part start out)) at 0
     → pen v to ≡ ended (ink s a (pen w (part start out))) → v .len ≤ length out - start + 2
-file-len {s} {w = w} out start a v to c q =
+file-len {s} w out start a v to c q =
     let p : Pen = pen w (part start out) in
     let f = ink-fit s a p (c .ready .fit) in
     let x : v .len ≤ ink s a p .w .len = rw (ap (λ (y : Pen). y .w .len) q) (ended-len (ink s a p)) in
@@ -137,20 +136,20 @@ file-len {s} {w = w} out start a v to c q =
 
 -- what it leaves
 file-pen :
-    (deck pool out : Bytes) (start : ℕ) (c : Cursor) (s : Settings) (w v : Writer) (to : Bytes) → s ≡ plainSettings → w ≡ fresh (s .width) 0 0
+    (deck pool out : Bytes) (start : ℕ) (c : Cursor) (s : Settings) (w v : Writer) (to : Bytes) → s ≡ plainSettings → fields w ≡ begun s
     → pen v to ≡ ended (ink s (oneDocument s true (nodeAt deck pool c)) (pen w (part start out))) → pen v to ≡ filePen deck pool c (drop start out)
 unfolding filePen
 file-pen deck pool out start c s w v to e f q =
     q
     ∙ ap (λ (x : Bytes). ended (ink s (oneDocument s true (nodeAt deck pool c)) (pen w x))) (part-to-end out start)
-    ∙ ap (λ (x : Writer). ended (ink s (oneDocument s true (nodeAt deck pool c)) (pen x (drop start out)))) f
-    ∙ ap (λ (x : Settings). ended (ink x (oneDocument x true (nodeAt deck pool c)) (pen (fresh (x .width) 0 0) (drop start out)))) e
+    ∙ ap (λ (x : Fields). ended (ink s (oneDocument s true (nodeAt deck pool c)) (page x (drop start out)))) f
+    ∙ ap (λ (x : Settings). ended (ink x (oneDocument x true (nodeAt deck pool c)) (page (begun x) (drop start out)))) e
 
 nothing-after : (out : Bytes) (start : ℕ) → drop (length out - start) (drop start out) ≡ []
 nothing-after out start = drop-of-length-le (drop start out) {i = length out - start} (rw (length-drop start out) (omega arith))
 
 pub file-done :
-    (deck pool out : Bytes) (start : ℕ) (f : Found) (s : Settings) (w v : Writer) (to : Bytes) → s ≡ plainSettings → w ≡ fresh (s .width) 0 0
+    (deck pool out : Bytes) (start : ℕ) (f : Found) (s : Settings) (w v : Writer) (to : Bytes) → s ≡ plainSettings → fields w ≡ begun s
     → pen v to ≡ ended (ink s (oneDocument s true (nodeAt deck pool (f .at))) (pen w (part start out)))
     → (record { change = record { id = f .id; start = start; length = v .len }; next = record { at = f .next .at; start = start + v .len; zero = 0 } } ≡ fileStep deck pool out start f .made)
     × (take start out ++ (to ++ drop (length out - start) (drop start out)) ≡ fileStep deck pool out start f .out)

@@ -12,8 +12,8 @@ use Rattle.definition.specs.Calls.{noChange}
 use Rattle.definition.specs.declared.Cursor.{Cursor}
 use Rattle.definition.specs.declared.File.{File}
 use Rattle.definition.specs.declared.File.the-variants.{Absent, Id}
-use Rattle.pen.specs.Pen.{Pen, pen, ink, ended}
-use Rattle.pen.specs.Shown.{fresh}
+use Rattle.pen.specs.Pen.{Pen, page, ink, ended}
+use Rattle.pen.specs.Shown.{begun}
 use Rattle.modified.specs.Files.{fileAt}
 use Rattle.joints.specs.Entries.{nodeAt}
 use Rattle.files.specs.declared.Walk.{Walk}
@@ -47,7 +47,7 @@ module _ (deck pool : Bytes) where
 
 -- the pen at the end of the file that the node at a cursor is, over a slice
 unfoldable pub filePen : Bytes → Bytes → Cursor → Bytes → Pen
-filePen deck pool c out = ended (ink plainSettings (oneDocument plainSettings true (nodeAt deck pool c)) (pen (fresh (plainSettings .width) 0 0) out))
+filePen deck pool c out = ended (ink plainSettings (oneDocument plainSettings true (nodeAt deck pool c)) (page (begun plainSettings) out))
 
 pub record Step : Type 0 where
   pub made : Made

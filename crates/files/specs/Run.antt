@@ -16,8 +16,8 @@ use Rattle.definition.specs.Deck.{got, readDeck}
 use Rattle.definition.specs.Calls.{noChange, over, entries, bytesOfAll}
 use Rattle.definition.specs.declared.Change.{Change}
 use Rattle.definition.specs.declared.Cursor.{Cursor}
-use Rattle.pen.specs.Pen.{Pen, pen}
-use Rattle.pen.specs.Shown.{fresh, Leaves, leaves}
+use Rattle.pen.specs.Pen.{Pen, page}
+use Rattle.pen.specs.Shown.{begun, Leaves, leaves}
 use Rattle.scripts.specs.Sound.{Formed}
 use Rattle.scripts.specs.Files.{FormedFiles, sound-file}
 use Rattle.scripts.specs.Keep.{ended-length-of}
@@ -74,7 +74,7 @@ module _ (deck pool : Bytes) where
 
   file-length : (c : Cursor) (out : Bytes) → length (filePen deck pool c out .out) ≡ length out
   unfolding filePen
-  file-length c out = ended-length-of plainSettings (oneDocument plainSettings true (nodeAt deck pool c)) (pen (fresh (plainSettings .width) 0 0) out) _ refl
+  file-length c out = ended-length-of plainSettings (oneDocument plainSettings true (nodeAt deck pool c)) (page (begun plainSettings) out) _ refl
 
   file-step-length : (out : Bytes) (start : ℕ) (f : Found) → start ≤ length out → length (fileStep deck pool out start f .out) ≡ length out
   unfolding fileStep
@@ -107,7 +107,7 @@ module _ (deck pool : Bytes) where
 
   file-leaves : (c : Cursor) (rest : Bytes) → Formed (nodeAt deck pool c) → Leaves rest (emitFile (nodeAt deck pool c)) (filePen deck pool c rest)
   unfolding filePen emitFile
-  file-leaves c rest h = leaves plainSettings (oneDocument plainSettings true (nodeAt deck pool c)) (sound-file (nodeAt deck pool c) h) rest (plainSettings .width) 0 0 (λ x. x)
+  file-leaves c rest h = leaves plainSettings (oneDocument plainSettings true (nodeAt deck pool c)) (sound-file (nodeAt deck pool c) h) rest
 
   file-behind : (pre rest : Bytes) (f : Found) (q : Pen) → q ≡ filePen deck pool (f .at) rest
       → fileStep deck pool (pre ++ rest) (length pre) f

@@ -1,7 +1,7 @@
 -- Laws of content on one line, for the members of the cycle.
 -- Assumes nothing.
-use mathlib.Core.Path.{_≡_, refl, sym, ap, _∙_}
-use Prim.Native.Nat.{ℕ, zero, suc, _+_, _-_, _<_, _≤_}
+use mathlib.Core.Path.{_≡_, refl, sym, ap, subst, _∙_}
+use Prim.Native.Nat.{ℕ, zero, suc, _+_, _-_, _<_, _≤_, _^_}
 use native.Mathlib.Omega.{arith}
 use mathlib.Core.Bool.{Bool, true, false, not}
 use mathlib.Core.List.{[], _∷_}
@@ -22,8 +22,8 @@ use Rattle.definition.specs.declared.Words.{Words}
 use Rattle.definition.specs.declared.Settings.{Settings}
 use Rattle.node.specs.Total.{keptOf, broughtOf, heldOf, remarkOf}
 use Rattle.pen.specs.declared.Writer.{Writer}
-use Rattle.pen.specs.Pen.{Pen, pen, put1, puts, ink}
-use Rattle.scripts.specs.Keep.{withFlow, withKey, ink-in-flow, ink-in-key, flow-of, key-of, length-of}
+use Rattle.pen.specs.Pen.{Pen, pen, put1, puts, ink, fields, page, withFlow, withKey}
+use Rattle.scripts.specs.Keep.{ink-in-flow, ink-in-key, flow-of, key-of, length-of}
 use Rattle.pen.specs.Draws.{Draws}
 use Rattle.spot.specs.declared.Body.the-variants as body
 use Rattle.spot.specs.declared.Spot.{Spot}
@@ -56,13 +56,22 @@ unfolding on
 on-more n = rw (ne-eqb (n + 1) 0 (λ e. absurd (omega arith)))
 
 -- a writer with a mark set, over its slice
-pub keyed-is : (w v : Writer) (n : ℕ) (out : Bytes) → v ≡ withKey n (pen w []) .w → pen v out ≡ withKey n (pen w out)
+pub keyed-is : (w v : Writer) (n : ℕ) (out : Bytes) → pen v [] ≡ withKey n (pen w []) → pen v out ≡ withKey n (pen w out)
 unfolding withKey
-keyed-is w v n out e = rw e
+keyed-is w v n out e = ap (λ (p : Pen). page (p .w) out) e
 
-pub flowed-is : (w v : Writer) (n : ℕ) (out : Bytes) → v ≡ withFlow n (pen w []) .w → pen v out ≡ withFlow n (pen w out)
+pub flowed-is : (w v : Writer) (n : ℕ) (out : Bytes) → pen v [] ≡ withFlow n (pen w []) → pen v out ≡ withFlow n (pen w out)
 unfolding withFlow
-flowed-is w v n out e = rw e
+flowed-is w v n out e = ap (λ (p : Pen). page (p .w) out) e
+
+-- a mark is a bit
+pub mark-small : (m : Manner) (k l : ℕ) → k < 2 → l ≡ keyBy m 1 k → l < 2
+unfolding keyBy
+mark-small m k l h q = rw q (go (ltb 2 (rankOf m)))
+  where
+    go : (b : Bool) → (if b then 1 else k) < 2
+    go true = omega arith
+    go false = h
 
 -- the mark inside a node
 mark-on : (m : Manner) (n : ℕ) → on (keyBy m 1 n) ≡ keyBy m true (on n)
@@ -179,16 +188,17 @@ module _ (s : Settings) (deck pool : Bytes) where
         within = d .within;
       }
 
-  -- the same of writers
+  -- the same of writers, by the depth that was read
   pub deeper-is :
-      (i : ℕ) (pairs : Bool) (n : ℕ) (c r r′ : Cursor) (w v x u : Writer) (out out′ : Bytes) → v ≡ withFlow (w .flow + 1) (pen w []) .w
-      → Emits s (groupOf deck pool s (on (v .flow)) (on (v .key)) i pairs n c) (pen v out) (pen x out′) (c .at) (runEnd deck pool pairs n c) r (length deck)
-      → u ≡ withFlow (w .flow) (pen x []) .w → r′ ≡ r
-      → Emits s (groupOf deck pool s true (on (w .key)) i pairs n c) (pen w out) (pen u out′) (c .at) (runEnd deck pool pairs n c) r′ (length deck)
-  unfolding withFlow
-  deeper-is i pairs n c r r′ w v x u out out′ a e b q =
-      let d : Emits s (groupOf deck pool s true (on (w .key)) i pairs n c) (withFlow (w .flow + 1) (pen w out)) (pen x out′) (c .at) (runEnd deck pool pairs n c) r (length deck) = rw (a, on-more (w .flow)) at e in
-      rw q (deeper (groupOf deck pool s true (on (w .key)) i pairs n c) {P = pen w out} d (flowed-is x u (w .flow) out′ b))
+      (i : ℕ) (pairs : Bool) (n : ℕ) (c r r′ : Cursor) (f : ℕ) (w v x u : Writer) (out out′ : Bytes) → f ≡ fields w .flow → pen v [] ≡ withFlow (f + 1) (pen w [])
+      → Emits s (groupOf deck pool s (on (fields v .flow)) (on (fields v .key)) i pairs n c) (pen v out) (pen x out′) (c .at) (runEnd deck pool pairs n c) r (length deck)
+      → pen u [] ≡ withFlow f (pen x []) → r′ ≡ r
+      → Emits s (groupOf deck pool s true (on (fields w .key)) i pairs n c) (pen w out) (pen u out′) (c .at) (runEnd deck pool pairs n c) r′ (length deck)
+  deeper-is i pairs n c r r′ f w v x u out out′ g a e b q =
+      let d = subst (λ (p : Pen). Emits s (groupOf deck pool s (F p) (K p) i pairs n c) p (pen x out′) (c .at) (runEnd deck pool pairs n c) r (length deck)) (flowed-is w v (f + 1) out a ∙ ap (λ (k : ℕ). withFlow (k + 1) (pen w out)) g) e in
+      let m : F (withFlow (fields w .flow + 1) (pen w out)) ≡ true = unfold withFlow in on-more (fields w .flow) in
+      let k : K (withFlow (fields w .flow + 1) (pen w out)) ≡ on (fields w .key) = unfold withFlow in refl in
+      rw q (deeper (groupOf deck pool s true (on (fields w .key)) i pairs n c) {P = pen w out} (rw (m, k) at d) (flowed-is x u f out′ b ∙ ap (λ (k : ℕ). withFlow k (pen x out′)) g))
 
   -- ---- brackets
 
@@ -338,17 +348,16 @@ module _ (s : Settings) (deck pool : Bytes) where
         within = e .within;
       }
 
-  -- the same of writers: the key mark set, and set back
+  -- the same of writers: the key mark read, set, and set back
   pub line-whole-is :
-      (m : Manner) (r : Cursor) (x : Spot) (i l : ℕ) (w w₁ w₂ u v : Writer) (out out₁ out₂ : Bytes) {P : Pen}
-      → Draws (dressed m (props (broughtIn deck pool x))) (pen w out) (pen w₁ out₁) → l ≡ keyBy m 1 (w .key) → w₂ ≡ withKey l (pen w₁ []) .w
+      (m : Manner) (r : Cursor) (x : Spot) (i k l : ℕ) (w w₁ w₂ u v : Writer) (out out₁ out₂ : Bytes) {P : Pen} → k ≡ fields w .key
+      → Draws (dressed m (props (broughtIn deck pool x))) (pen w out) (pen w₁ out₁) → l ≡ keyBy m 1 k → pen w₂ [] ≡ withKey l (pen w₁ [])
       → Emits s (contentIn (pen w₂ out₁) i x) (pen w₂ out₁) (pen u out₂) (x .place) (endIn deck pool x) r (length deck)
-      → v ≡ withKey (w .key) (pen u []) .w → Draws (ending m (x .place) (keptIn deck pool x) (kindIn deck pool x)) (pen v out₂) P
-      → Emits s (lineOf s (on (w .flow)) (on (w .key)) m i (nodeIn deck pool x)) (pen w out) P (x .place) (endIn deck pool x) r (length deck)
-  unfolding withKey
-  line-whole-is m r x i l w w₁ w₂ u v out out₁ out₂ d t a e q z =
-      let n : Emits s (contentIn (withKey l (pen w₁ out₁)) i x) (withKey l (pen w₁ out₁)) (pen u out₂) (x .place) (endIn deck pool x) r (length deck) = rw a at e in
-      line-whole m r x i (w .key) l d t n refl (keyed-is u v (w .key) out₂ q) z
+      → pen v [] ≡ withKey k (pen u []) → Draws (ending m (x .place) (keptIn deck pool x) (kindIn deck pool x)) (pen v out₂) P
+      → Emits s (lineOf s (on (fields w .flow)) (on (fields w .key)) m i (nodeIn deck pool x)) (pen w out) P (x .place) (endIn deck pool x) r (length deck)
+  line-whole-is m r x i k l w w₁ w₂ u v out out₁ out₂ g d t a e q z =
+      let n = subst (λ (p : Pen). Emits s (contentIn p i x) p (pen u out₂) (x .place) (endIn deck pool x) r (length deck)) (keyed-is w₁ w₂ l out₁ a) e in
+      line-whole m r x i k l d (t ∙ ap (keyBy m 1) g) n g (keyed-is u v k out₂ q) z
 
   pub lined-entry-whole :
       (pairs last : Bool) (c to r : Cursor) (x : Spot) (i : ℕ) {P₀ P₁ P₂ P₃ : Pen} → LastOf deck pairs c to → x ≡ spotAt deck to
@@ -375,13 +384,18 @@ module _ (s : Settings) (deck pool : Bytes) where
   unfolding ink sign puts
   after-byte b r e = after r s (sign b) _ e
 
-  pub keyed-at : (w v : Writer) (n : ℕ) (out : Bytes) {at i : ℕ} → v ≡ withKey n (pen w []) .w → Ready s deck pool (pen w out) at i → Ready s deck pool (pen v out) at i
+  pub keyed-at : (w v : Writer) (n : ℕ) (out : Bytes) {at i : ℕ} → pen v [] ≡ withKey n (pen w []) → Ready s deck pool (pen w out) at i → Ready s deck pool (pen v out) at i
   keyed-at w v n out e r = rw (keyed-is w v n out e) (keyed r n)
 
   -- inside a flow collection
   pub group-in :
-      (w v : Writer) (out : Bytes) (at i to : ℕ) → v ≡ withFlow (w .flow + 1) (pen w []) .w → Ready s deck pool (pen w out) at i → at < to → to ≤ length deck → Ready s deck pool (pen v out) to (i + stepOf s)
-  group-in w v out at i to e r l m = rw (flowed-is w v (w .flow + 1) out e) (inside r to l m)
+      (f : ℕ) (w v : Writer) (out : Bytes) (at i to : ℕ) → f ≡ fields w .flow → pen v [] ≡ withFlow (f + 1) (pen w []) → Ready s deck pool (pen w out) at i → at < to → to ≤ length deck
+      → Ready s deck pool (pen v out) to (i + stepOf s)
+  group-in f w v out at i to g e r l m = rw (flowed-is w v (f + 1) out e, g) (inside r to l m)
+
+  -- the depth is small enough for one more
+  pub depth-small : (f : ℕ) (w : Writer) (out : Bytes) {at i : ℕ} → f ≡ fields w .flow → Ready s deck pool (pen w out) at i → f + 1 < 2 ^ 60
+  depth-small f w out e r = let h = r .flow in omega (arith, e, h)
 
   -- ---- the loops over entries: finishing from here ends as finishing from the start would
 

@@ -11,8 +11,8 @@ use Rattle.definition.specs.Tree.{Node}
 use Rattle.definition.specs.Pen.{Script}
 use Rattle.definition.specs.declared.Cursor.{Cursor}
 use Rattle.definition.specs.declared.Settings.{Settings}
-use Rattle.pen.specs.Pen.{Pen, ink}
-use Rattle.scripts.specs.Keep.{Fit, length-of, ink-length, ink-flow, fit-of, withFlow, withKey, with-flow-fit, with-key-fit}
+use Rattle.pen.specs.Pen.{Pen, ink, withFlow, withKey}
+use Rattle.scripts.specs.Keep.{Fit, length-of, ink-length, ink-flow, fit-of, with-flow-fit, with-key-fit}
 use Rattle.pen.specs.Draws.{Draws}
 use Rattle.spot.specs.declared.Spot.{Spot}
 use Rattle.spot.specs.Spot.{endIn, nodeIn, spotAt, tree-value, tree-end}

@@ -12,8 +12,7 @@ ghost use mathlib.Core.List.{[]};
 ghost use lib.ListN.{length};
 ghost use Rattle.definition.specs.Settings.{stepOf};
 ghost use Rattle.definition.specs.Walk.{contentOf};
-ghost use Rattle.pen.specs.Pen.{pen};
-ghost use Rattle.scripts.specs.Keep.{withFlow};
+ghost use Rattle.pen.specs.Pen.{fields, pen, withFlow};
 ghost use Rattle.spot.specs.Spot.{keptIn, broughtIn, kindIn, nodeIn, endIn};
 ghost use Rattle.spot.specs.Good.{Good, countIn};
 ghost use Rattle.atoms.specs.Atoms.{on};
@@ -58,10 +57,11 @@ fn is_lined(deck: &[u8], quiet: bool, pairs: bool, c: Cursor, n: usize) -> bool
 
 // Back at a depth of flow collections.
 fn back(e: Emitted, flow: usize) -> Emitted
-    ensures { λ r. ⌜ (r .w ≡ withFlow flow (pen (e .w) []) .w) × (r .next ≡ e .next) ⌝ }
+    requires { ⌜ flow < 2 ^ 60 ⌝ }
+    ensures { λ r. ⌜ (pen (r .w) [] ≡ withFlow flow (pen (e .w) [])) × (r .next ≡ e .next) ⌝ }
 {
     let next = e.next;
-    let w = joints::with_flow(e.w, flow);
+    let w = e.w.with_flow(flow);
     Emitted { w, next }
 }
 
@@ -78,7 +78,7 @@ fn content(
     still: bool,
 ) -> Emitted
     requires { ⌜ (Ready settings (now deck) (now pool) (pen w (now out)) (x .place) i) × Good (now deck) x × (countIn (x .body) < 65536) × HushedIn (now deck) (now pool) still x ⌝ }
-    ensures { λ r. ⌜ Emits settings (contentOf settings (on (w .flow)) (on (w .key)) i (x .place) (keptIn (now (deck .entry)) (now (pool .entry)) x) (broughtIn (now (deck .entry)) (now (pool .entry)) x) (kindIn (now (deck .entry)) (now (pool .entry)) x)) (pen w (now (out .entry))) (pen (r .w) (now (out .exit))) (x .place) (endIn (now (deck .entry)) (now (pool .entry)) x) (r .next) (length (now (deck .entry))) ⌝ }
+    ensures { λ r. ⌜ Emits settings (contentOf settings (on (fields w .flow)) (on (fields w .key)) i (x .place) (keptIn (now (deck .entry)) (now (pool .entry)) x) (broughtIn (now (deck .entry)) (now (pool .entry)) x) (kindIn (now (deck .entry)) (now (pool .entry)) x)) (pen w (now (out .entry))) (pen (r .w) (now (out .exit))) (x .place) (endIn (now (deck .entry)) (now (pool .entry)) x) (r .next) (length (now (deck .entry))) ⌝ }
 {
     let body = x.body;
     let next = x.next;
@@ -109,14 +109,14 @@ fn content(
             Emitted { w: v, next }
         }
         Body::Sequence(g) => {
-            let flow = w.flow;
-            let v = joints::with_flow(w, flow + 1);
+            let flow = w.flow();
+            let v = w.with_flow(flow + 1);
             let e = group(v, deck, pool, out, settings, false, g.count, next, i, still);
             back(e, flow)
         }
         Body::Mapping(g) => {
-            let flow = w.flow;
-            let v = joints::with_flow(w, flow + 1);
+            let flow = w.flow();
+            let v = w.with_flow(flow + 1);
             let e = group(v, deck, pool, out, settings, true, g.count, next, i, still);
             back(e, flow)
         }
@@ -137,7 +137,7 @@ fn group(
     still: bool,
 ) -> Emitted
     requires { ⌜ (Ready settings (now deck) (now pool) (pen w (now out)) (c .at) (i + stepOf settings)) × (n < 65536) × Hushed (now deck) (now pool) still (treesIn pairs n) c ⌝ }
-    ensures { λ r. ⌜ Emits settings (groupOf (now (deck .entry)) (now (pool .entry)) settings (on (w .flow)) (on (w .key)) i pairs n c) (pen w (now (out .entry))) (pen (r .w) (now (out .exit))) (c .at) (runEnd (now (deck .entry)) (now (pool .entry)) pairs n c) (r .next) (length (now (deck .entry))) ⌝ }
+    ensures { λ r. ⌜ Emits settings (groupOf (now (deck .entry)) (now (pool .entry)) settings (on (fields w .flow)) (on (fields w .key)) i pairs n c) (pen w (now (out .entry))) (pen (r .w) (now (out .exit))) (c .at) (runEnd (now (deck .entry)) (now (pool .entry)) pairs n c) (r .next) (length (now (deck .entry))) ⌝ }
 {
     let j = i + choices::step_of(settings);
     let quiet = is_quiet(deck, still, pairs, c, n);
@@ -161,7 +161,7 @@ fn lined_group(
     j: usize,
 ) -> Emitted
     requires { ⌜ (Ready settings (now deck) (now pool) (pen w (now out)) (c .at) j) × (i ≤ j) ⌝ }
-    ensures { λ r. ⌜ Emits settings (linedIn (now (deck .entry)) (now (pool .entry)) settings (on (w .flow)) (on (w .key)) i j pairs n c) (pen w (now (out .entry))) (pen (r .w) (now (out .exit))) (c .at) (runEnd (now (deck .entry)) (now (pool .entry)) pairs n c) (r .next) (length (now (deck .entry))) ⌝ }
+    ensures { λ r. ⌜ Emits settings (linedIn (now (deck .entry)) (now (pool .entry)) settings (on (fields w .flow)) (on (fields w .key)) i j pairs n c) (pen w (now (out .entry))) (pen (r .w) (now (out .exit))) (c .at) (runEnd (now (deck .entry)) (now (pool .entry)) pairs n c) (r .next) (length (now (deck .entry))) ⌝ }
 {
     let w1 = w.byte(out, joints::opening_of(pairs));
     let w2 = w1.byte(out, b'\n');
@@ -186,7 +186,7 @@ fn plain_group(
     still: bool,
 ) -> Emitted
     requires { ⌜ (Ready settings (now deck) (now pool) (pen w (now out)) (c .at) i) × Hushed (now deck) (now pool) still (treesIn pairs n) c ⌝ }
-    ensures { λ r. ⌜ Emits settings (plainIn (now (deck .entry)) (now (pool .entry)) settings (on (w .flow)) (on (w .key)) i pairs n c) (pen w (now (out .entry))) (pen (r .w) (now (out .exit))) (c .at) (runEnd (now (deck .entry)) (now (pool .entry)) pairs n c) (r .next) (length (now (deck .entry))) ⌝ }
+    ensures { λ r. ⌜ Emits settings (plainIn (now (deck .entry)) (now (pool .entry)) settings (on (fields w .flow)) (on (fields w .key)) i pairs n c) (pen w (now (out .entry))) (pen (r .w) (now (out .exit))) (c .at) (runEnd (now (deck .entry)) (now (pool .entry)) pairs n c) (r .next) (length (now (deck .entry))) ⌝ }
 {
     let w1 = w.byte(out, joints::opening_of(pairs));
     let e = flow_entries(w1, deck, pool, out, settings, pairs, n, c, i, still);
@@ -208,7 +208,7 @@ fn lined_entries(
     i: usize,
 ) -> Emitted
     requires { ⌜ Ready settings (now deck) (now pool) (pen w (now out)) (c .at) i ⌝ }
-    ensures { λ r. ⌜ Emits settings (linedRun (now (deck .entry)) (now (pool .entry)) settings (on (w .flow)) (on (w .key)) i pairs n c) (pen w (now (out .entry))) (pen (r .w) (now (out .exit))) (c .at) (runEnd (now (deck .entry)) (now (pool .entry)) pairs n c) (r .next) (length (now (deck .entry))) ⌝ }
+    ensures { λ r. ⌜ Emits settings (linedRun (now (deck .entry)) (now (pool .entry)) settings (on (fields w .flow)) (on (fields w .key)) i pairs n c) (pen w (now (out .entry))) (pen (r .w) (now (out .exit))) (c .at) (runEnd (now (deck .entry)) (now (pool .entry)) pairs n c) (r .next) (length (now (deck .entry))) ⌝ }
 {
     let mut v = w;
     let mut here = c;
@@ -236,7 +236,7 @@ fn flow_entries(
     still: bool,
 ) -> Emitted
     requires { ⌜ (Ready settings (now deck) (now pool) (pen w (now out)) (c .at) i) × Hushed (now deck) (now pool) still (treesIn pairs n) c ⌝ }
-    ensures { λ r. ⌜ Emits settings (flowRun (now (deck .entry)) (now (pool .entry)) settings (on (w .flow)) (on (w .key)) i pairs true n c) (pen w (now (out .entry))) (pen (r .w) (now (out .exit))) (c .at) (runEnd (now (deck .entry)) (now (pool .entry)) pairs n c) (r .next) (length (now (deck .entry))) ⌝ }
+    ensures { λ r. ⌜ Emits settings (flowRun (now (deck .entry)) (now (pool .entry)) settings (on (fields w .flow)) (on (fields w .key)) i pairs true n c) (pen w (now (out .entry))) (pen (r .w) (now (out .exit))) (c .at) (runEnd (now (deck .entry)) (now (pool .entry)) pairs n c) (r .next) (length (now (deck .entry))) ⌝ }
 {
     let mut v = w;
     let mut here = c;
@@ -266,7 +266,7 @@ fn lined_entry(
     last: bool,
 ) -> Emitted
     requires { ⌜ Ready settings (now deck) (now pool) (pen w (now out)) (c .at) i ⌝ }
-    ensures { λ r. ⌜ Emits settings (linedOf (now (deck .entry)) (now (pool .entry)) settings (on (w .flow)) (on (w .key)) i pairs last c) (pen w (now (out .entry))) (pen (r .w) (now (out .exit))) (c .at) (entryEnd (now (deck .entry)) (now (pool .entry)) pairs c) (r .next) (length (now (deck .entry))) ⌝ }
+    ensures { λ r. ⌜ Emits settings (linedOf (now (deck .entry)) (now (pool .entry)) settings (on (fields w .flow)) (on (fields w .key)) i pairs last c) (pen w (now (out .entry))) (pen (r .w) (now (out .exit))) (c .at) (entryEnd (now (deck .entry)) (now (pool .entry)) pairs c) (r .next) (length (now (deck .entry))) ⌝ }
 {
     let end = joints::last_of(deck, pairs, c);
     let x = spot::spot_at(deck, end);
@@ -291,7 +291,7 @@ fn entry_key(
     still: bool,
 ) -> Emitted
     requires { ⌜ (Ready settings (now deck) (now pool) (pen w (now out)) (c .at) i) × Hushed (now deck) (now pool) still (treesIn pairs 1) c ⌝ }
-    ensures { λ r. ⌜ Emits settings (entryKey (now (deck .entry)) (now (pool .entry)) settings (on (w .flow)) (on (w .key)) i pairs c) (pen w (now (out .entry))) (pen (r .w) (now (out .exit))) (c .at) (lastOf (now (deck .entry)) (now (pool .entry)) pairs c) (r .next) (length (now (deck .entry))) ⌝ }
+    ensures { λ r. ⌜ Emits settings (entryKey (now (deck .entry)) (now (pool .entry)) settings (on (fields w .flow)) (on (fields w .key)) i pairs c) (pen w (now (out .entry))) (pen (r .w) (now (out .exit))) (c .at) (lastOf (now (deck .entry)) (now (pool .entry)) pairs c) (r .next) (length (now (deck .entry))) ⌝ }
 {
     if pairs {
         let e = entry_node(w, deck, pool, out, settings, c, i, Manner::Key, still);
@@ -315,7 +315,7 @@ fn flow_entry(
     still: bool,
 ) -> Emitted
     requires { ⌜ (Ready settings (now deck) (now pool) (pen w (now out)) (c .at) i) × Hushed (now deck) (now pool) still (treesIn pairs 1) c ⌝ }
-    ensures { λ r. ⌜ Emits settings (entryOf (now (deck .entry)) (now (pool .entry)) settings (on (w .flow)) (on (w .key)) i pairs c) (pen w (now (out .entry))) (pen (r .w) (now (out .exit))) (c .at) (entryEnd (now (deck .entry)) (now (pool .entry)) pairs c) (r .next) (length (now (deck .entry))) ⌝ }
+    ensures { λ r. ⌜ Emits settings (entryOf (now (deck .entry)) (now (pool .entry)) settings (on (fields w .flow)) (on (fields w .key)) i pairs c) (pen w (now (out .entry))) (pen (r .w) (now (out .exit))) (c .at) (entryEnd (now (deck .entry)) (now (pool .entry)) pairs c) (r .next) (length (now (deck .entry))) ⌝ }
 {
     if pairs {
         let e = entry_node(w, deck, pool, out, settings, c, i, Manner::Key, still);
@@ -339,14 +339,14 @@ pub fn line(
     still: bool,
 ) -> Emitted
     requires { ⌜ (Ready settings (now deck) (now pool) (pen w (now out)) (x .place) i) × Good (now deck) x × (countIn (x .body) < 65536) × HushedIn (now deck) (now pool) still x ⌝ }
-    ensures { λ r. ⌜ Emits settings (lineOf settings (on (w .flow)) (on (w .key)) manner i (nodeIn (now (deck .entry)) (now (pool .entry)) x)) (pen w (now (out .entry))) (pen (r .w) (now (out .exit))) (x .place) (endIn (now (deck .entry)) (now (pool .entry)) x) (r .next) (length (now (deck .entry))) ⌝ }
+    ensures { λ r. ⌜ Emits settings (lineOf settings (on (fields w .flow)) (on (fields w .key)) manner i (nodeIn (now (deck .entry)) (now (pool .entry)) x)) (pen w (now (out .entry))) (pen (r .w) (now (out .exit))) (x .place) (endIn (now (deck .entry)) (now (pool .entry)) x) (r .next) (length (now (deck .entry))) ⌝ }
 {
-    let mark = w.key;
+    let mark = w.key();
     let w1 = joints::put_dress(w, deck, pool, out, x, manner);
-    let w2 = joints::with_key(w1, joints::key_in(manner, mark));
+    let w2 = w1.with_key(joints::key_in(manner, mark));
     let e = content(w2, deck, pool, out, settings, x, i, still);
     let next = e.next;
-    let v = joints::with_key(e.w, mark);
+    let v = e.w.with_key(mark);
     let v1 = joints::put_ending(v, deck, pool, out, x, manner);
     Emitted { w: v1, next }
 }
@@ -364,7 +364,7 @@ fn entry_node(
     still: bool,
 ) -> Emitted
     requires { ⌜ (Ready settings (now deck) (now pool) (pen w (now out)) (c .at) i) × Hushed (now deck) (now pool) still 1 c ⌝ }
-    ensures { λ r. ⌜ Emits settings (lineOf settings (on (w .flow)) (on (w .key)) manner i (nodeAt (now (deck .entry)) (now (pool .entry)) c)) (pen w (now (out .entry))) (pen (r .w) (now (out .exit))) (c .at) (nextAt (now (deck .entry)) (now (pool .entry)) c) (r .next) (length (now (deck .entry))) ⌝ }
+    ensures { λ r. ⌜ Emits settings (lineOf settings (on (fields w .flow)) (on (fields w .key)) manner i (nodeAt (now (deck .entry)) (now (pool .entry)) c)) (pen w (now (out .entry))) (pen (r .w) (now (out .exit))) (c .at) (nextAt (now (deck .entry)) (now (pool .entry)) c) (r .next) (length (now (deck .entry))) ⌝ }
 {
     let x = spot::spot_at(deck, c);
     line(w, deck, pool, out, settings, x, i, manner, still)

@@ -16,8 +16,7 @@ ghost use Rattle.definition.specs.Ascii.{COMMA};
 ghost use Rattle.definition.specs.Pen.{comma, nothing, sign};
 ghost use Rattle.definition.specs.Walk.{props};
 ghost use Rattle.node.specs.Total.{keptOf, remarkOf};
-ghost use Rattle.pen.specs.Pen.{pen, ink};
-ghost use Rattle.scripts.specs.Keep.{withFlow, withKey};
+ghost use Rattle.pen.specs.Pen.{fields, pen, ink};
 ghost use Rattle.pen.specs.Draws.{Draws};
 ghost use Rattle.comments.specs.Runs.{Short};
 ghost use Rattle.spot.specs.Spot.{keptIn, broughtIn, kindIn};
@@ -26,29 +25,15 @@ ghost use Rattle.joints.specs.Told.{Colon, LastOf};
 ghost use Rattle.joints.specs.Line.{rankOf, dressed, keyBy, ending};
 ghost use Rattle.joints.specs.Entries.{keyHeads, linedBefore, linedAfter, opening, closing};
 
-pub fn with_flow(mut w: Writer, n: usize) -> Writer
-    ensures { λ r. ⌜ r ≡ withFlow n (pen w []) .w ⌝ }
-{
-    w.flow = n;
-    w
-}
-
-pub fn with_key(mut w: Writer, n: usize) -> Writer
-    ensures { λ r. ⌜ r ≡ withKey n (pen w []) .w ⌝ }
-{
-    w.key = n;
-    w
-}
-
 // `emit_flow_separator`, but before the first entry.
 pub fn put_between(w: Writer, out: &mut [u8], settings: Settings, first: bool, i: usize) -> Writer
     requires { ⌜ (w .column < 2 ^ 63) × (length (now out) < 2 ^ 62) ⌝ }
-    ensures { λ r. ⌜ pen r (now (out .exit)) ≡ ink settings (if first then nothing else comma (on (w .key)) i) (pen w (now (out .entry))) ⌝ }
+    ensures { λ r. ⌜ pen r (now (out .exit)) ≡ ink settings (if first then nothing else comma (on (fields w .key)) i) (pen w (now (out .entry))) ⌝ }
 {
     if first {
         return w;
     }
-    let key = w.key != 0;
+    let key = w.key() != 0;
     scalar::put_separator(w, out, settings, key, i)
 }
 

@@ -14,7 +14,7 @@ ghost use Rattle.definition.specs.Base.{if_then_else_};
 ghost use Rattle.definition.specs.Pen.{nothing, indent};
 ghost use Rattle.definition.specs.Walk.{belowIntroducer, content};
 ghost use Rattle.node.specs.Total.{keptOf, broughtOf};
-ghost use Rattle.pen.specs.Pen.{pen};
+ghost use Rattle.pen.specs.Pen.{fields, pen};
 ghost use Rattle.pen.specs.Draws.{Draws};
 ghost use Rattle.comments.specs.Runs.{Short};
 ghost use Rattle.parts.specs.Lines.{before};
@@ -53,7 +53,7 @@ pub fn put_below(
     x: Spot,
     i: usize,
 ) -> Emitted
-    requires { ⌜ (Ready settings (now deck) (now pool) (pen w (now out)) (x .place) i) × Good (now deck) x × (countIn (x .body) < 65536) × (w .flow ≡ 0) × (w .key ≡ 0) ⌝ }
+    requires { ⌜ (Ready settings (now deck) (now pool) (pen w (now out)) (x .place) i) × Good (now deck) x × (countIn (x .body) < 65536) × (fields w .flow ≡ 0) × (fields w .key ≡ 0) ⌝ }
     ensures { λ r. ⌜ Emits settings (belowIntroducer (x .place) (keptIn (now (deck .entry)) (now (pool .entry)) x) (broughtIn (now (deck .entry)) (now (pool .entry)) x) i (content settings false false i (nodeIn (now (deck .entry)) (now (pool .entry)) x))) (pen w (now (out .entry))) (pen (r .w) (now (out .exit))) (x .place) (endIn (now (deck .entry)) (now (pool .entry)) x) (r .next) (length (now (deck .entry))) ⌝ }
 {
     let w1 = parts::put_below(w, deck, pool, out, x.place, x.lead, i);
@@ -111,7 +111,7 @@ pub fn put_key_line(
     x: Spot,
     i: usize,
 ) -> Emitted
-    requires { ⌜ (Ready settings (now deck) (now pool) (pen w (now out)) (x .place) i) × Good (now deck) x × (countIn (x .body) < 65536) × (w .flow ≡ 0) × (w .key ≡ 0) ⌝ }
+    requires { ⌜ (Ready settings (now deck) (now pool) (pen w (now out)) (x .place) i) × Good (now deck) x × (countIn (x .body) < 65536) × (fields w .flow ≡ 0) × (fields w .key ≡ 0) ⌝ }
     ensures { λ r. ⌜ Emits settings (keyLine settings i (broughtIn (now (deck .entry)) (now (pool .entry)) x) (nodeIn (now (deck .entry)) (now (pool .entry)) x)) (pen w (now (out .entry))) (pen (r .w) (now (out .exit))) (x .place) (endIn (now (deck .entry)) (now (pool .entry)) x) (r .next) (length (now (deck .entry))) ⌝ }
 {
     let w1 = w.byte(out, b' ');

@@ -43,14 +43,11 @@ fn fresh(column: usize) -> Writer
 {
     Writer {
         len: 0,
-        last: 0,
-        under: 0,
-        column,
-        tracks: 1,
-        flow: 0,
-        key: 0,
-        inline: 0,
         raw: 0,
+        edge: 0,
+        inline: 0,
+        column,
+        mode: 2,
     }
 }
 
@@ -159,9 +156,6 @@ pub fn holds(row: &[u8], t: &[u8], note: &[u8], want: &[u8]) -> bool
 {
     let mut out = [0u8; 256];
     let w = steps(row, t, note, &mut out);
-    if w.under > 255 {
-        return false;
-    }
     let end = w.finish(&mut out);
     begins(&out, end.len, want)
 }

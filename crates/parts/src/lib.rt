@@ -84,7 +84,8 @@ pub fn put_props(
     ensures { λ r. ⌜ Draws (propsOf (heldOf (now (deck .entry)) (now (pool .entry)) tag) (heldOf (now (deck .entry)) (now (pool .entry)) anchor)) (pen w (now (out .entry))) (pen r (now (out .exit))) ⌝ }
 {
     if is_either(tag, anchor) {
-        return put_both(w, deck, pool, out, false, tag, anchor);
+        let v = put_both(w, deck, pool, out, false, tag, anchor);
+        return v.anew();
     }
     w
 }
@@ -224,7 +225,8 @@ pub fn put_close(
     if remark.at == 0 {
         return w.end_line(out);
     }
-    let w1 = put_remark(w, deck, pool, out, place, remark);
+    let u = w.anew();
+    let w1 = put_remark(u, deck, pool, out, place, remark);
     w1.end_line(out)
 }
 

@@ -10,8 +10,7 @@ use lib.Dec.{eqb, leb}
 use borrow.Author.Tests.{ne-eqb, leb-true, leb-false, le-leb, lt-leb}
 use mathlib.Core.Bool.{Bool, true, false}
 use Rattle.definition.specs.Base.{Bytes, if_then_else_}
-use Rattle.pen.specs.declared.Writer.{Writer}
-use Rattle.pen.specs.Pen.{Pen, pen, columnAfter, columnOver, put1, puts}
+use Rattle.pen.specs.Pen.{Fields, Pen, page, columnAfter, columnOver, put1, puts}
 
 -- ---- room
 
@@ -92,7 +91,7 @@ column-again k most c c′ b (suc n) z g h e inv = let m : suc n - 1 ≡ n = ome
 
 -- ---- the pen
 
-abbrev moved : Writer → ℕ → ℕ → ℕ → ℕ → Writer
+abbrev moved : Fields → ℕ → ℕ → ℕ → ℕ → Fields
 moved w n b u c =
     record {
       len = n;
@@ -106,7 +105,7 @@ moved w n b u c =
       raw = w .raw;
     }
 
-same : (w : Writer) {n n′ b b′ u u′ c c′ : ℕ} {o o′ : Bytes} → n ≡ n′ → b ≡ b′ → u ≡ u′ → c ≡ c′ → o ≡ o′ → pen (moved w n b u c) o ≡ pen (moved w n′ b′ u′ c′) o′
+same : (w : Fields) {n n′ b b′ u u′ c c′ : ℕ} {o o′ : Bytes} → n ≡ n′ → b ≡ b′ → u ≡ u′ → c ≡ c′ → o ≡ o′ → page (moved w n b u c) o ≡ page (moved w n′ b′ u′ c′) o′
 same w e f g h i = rw (e, f, g, h, i)
 
 -- the place of the next byte, m, is one further, or past the end as the one before
@@ -134,8 +133,8 @@ module _ (o : Bytes) (len b m : ℕ) (e : m ≡ min (len + 1) (length o + 2)) wh
           let l = length-set o len b in
           List·getD-eq-default o 0 (omega (arith, g)) ∙ sym (List·getD-eq-default (set o len b) 0 (omega (arith, e, g, l)))
 
-written : (t : Bytes) (w : Writer) (o : Bytes) → 0 < length t
-    → pen (moved w (min (w .len + length t) (length o + 2)) (getD t (length t - 1) 0) (getD o (w .len + length t - 1) 0) (columnOver (w .tracks) (length o + 2) (w .column) t)) (sets o (w .len) t) ≡ puts t (pen w o)
+written : (t : Bytes) (w : Fields) (o : Bytes) → 0 < length t
+    → page (moved w (min (w .len + length t) (length o + 2)) (getD t (length t - 1) 0) (getD o (w .len + length t - 1) 0) (columnOver (w .tracks) (length o + 2) (w .column) t)) (sets o (w .len) t) ≡ puts t (page w o)
 unfolding puts put1 columnOver columnAfter
 written [] w o h = absurd (omega arith)
 written (b ∷ []) w o h = same w (omega arith) refl (ap (λ (k : ℕ). getD o k 0) (omega arith)) refl refl
@@ -148,21 +147,21 @@ written (b ∷ c ∷ t) w o h =
     (under-on o (w .len) b m refl (length (c ∷ t)) (omega arith))
     (rw l refl)
     (stored-on o (w .len) b m refl (c ∷ t))
-    ∙ written (c ∷ t) (put1 (pen w o) b .w) (set o (w .len) b) (omega arith)
+    ∙ written (c ∷ t) (put1 (page w o) b .w) (set o (w .len) b) (omega arith)
 
 pub no-text : (t : Bytes) (p : Pen) → length t ≡ 0 → p ≡ puts t p
 unfolding puts
 no-text [] p e = refl
 no-text (b ∷ t) p e = absurd (omega arith)
 
-pub text-written : (t : Bytes) (w : Writer) (o : Bytes) (n b u c : ℕ) (o′ : Bytes) → 0 < length t
+pub text-written : (t : Bytes) (w : Fields) (o : Bytes) (n b u c : ℕ) (o′ : Bytes) → 0 < length t
     → n ≡ min (w .len + length t) (length o + 2) → b ≡ getD t (length t - 1) 0 → u ≡ getD o (w .len + length t - 1) 0 → c ≡ columnOver (w .tracks) (length o + 2) (w .column) t → o′ ≡ sets o (w .len) t
-    → pen (moved w n b u c) o′ ≡ puts t (pen w o)
+    → page (moved w n b u c) o′ ≡ puts t (page w o)
 text-written t w o n b u c o′ h en eb eu ec eo = same w en eb eu ec eo ∙ written t w o h
 
-pub again-written : (a k : ℕ) (w : Writer) (o : Bytes) (n b u c : ℕ) (o′ : Bytes) → 0 < k
+pub again-written : (a k : ℕ) (w : Fields) (o : Bytes) (n b u c : ℕ) (o′ : Bytes) → 0 < k
     → n ≡ min (w .len + k) (length o + 2) → b ≡ a → u ≡ getD o (w .len + k - 1) 0 → c ≡ columnOver (w .tracks) (length o + 2) (w .column) (replicate k a) → o′ ≡ sets o (w .len) (replicate k a)
-    → pen (moved w n b u c) o′ ≡ puts (replicate k a) (pen w o)
+    → page (moved w n b u c) o′ ≡ puts (replicate k a) (page w o)
 again-written a k w o n b u c o′ h en eb eu ec eo =
     let l : length (replicate k a) ≡ k = length-replicate k a in
     let g : getD (replicate k a) (k - 1) 0 ≡ a = getD-replicate k (k - 1) a 0 (omega (arith, h)) in

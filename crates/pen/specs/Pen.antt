@@ -1,6 +1,6 @@
 -- The pen: what writing into a lent slice does, one byte after another, and what a script does to it. Total in all states: a store past the
 -- end changes nothing, a byte past the end is 0, and counts stop at two past the room.
-use Prim.Native.Nat.{ℕ, _+_, _-_, min}
+use Prim.Native.Nat.{ℕ, _+_, _-_, _/_, _%_, min}
 use mathlib.Core.Path.{_≡_, refl, sym, ap, _∙_}
 use mathlib.Core.List.{[], _∷_, _++_}
 use mathlib.Core.Option.{Option, none, some}
@@ -15,16 +15,46 @@ use Rattle.definition.specs.declared.Settings.{Settings}
 use Rattle.laws.specs.Leaf.{scalarBytes}
 use Rattle.pen.specs.declared.Writer.{Writer}
 
+-- what a writer says
+pub record Fields : Type 0 where
+  pub len : ℕ
+  pub last : ℕ
+  pub under : ℕ
+  pub column : ℕ
+  pub tracks : ℕ
+  pub flow : ℕ
+  pub key : ℕ
+  pub inline : ℕ
+  pub raw : ℕ
+
+-- and how it keeps that in its numbers
+abbrev pub fields : Writer → Fields
+fields w =
+    record {
+      len = w .len;
+      last = w .edge / 256;
+      under = w .edge % 256;
+      column = w .column;
+      tracks = w .mode / 2 % 2;
+      flow = w .mode / 4;
+      key = w .mode % 2;
+      inline = w .inline;
+      raw = w .raw;
+    }
+
 -- a writer and its slice
 pub record Pen : Type 0 where
-  pub w : Writer
+  pub w : Fields
   pub out : Bytes
 
+abbrev pub page : Fields → Bytes → Pen
+page w o = record { w = w; out = o }
+
 abbrev pub pen : Writer → Bytes → Pen
-pen w o = record { w = w; out = o }
+pen w o = page (fields w) o
 
 -- the column after a byte, `most` at most
-unfoldable pub columnAfter : Writer → ℕ → ℕ → ℕ
+unfoldable pub columnAfter : Fields → ℕ → ℕ → ℕ
 columnAfter w most b = if eqb (w .tracks) 0 then w .column else if eqb b LF then 0 else min (w .column + 1) most
 
 -- the column after a text that begins at a column, where `k` says whether columns are kept
@@ -35,7 +65,7 @@ columnOver k most c (b ∷ t) = columnOver k most (if eqb k 0 then c else if eqb
 -- one byte: stored where there is room, else only counted
 unfoldable pub put1 : Pen → ℕ → Pen
 put1 p b =
-    pen
+    page
     (record {
       len = min (p .w .len + 1) (length (p .out) + 2);
       last = b;
@@ -67,7 +97,7 @@ and-then p a b e f = f ∙ ap (puts b) e ∙ sym (puts-append a b p)
 unfoldable pub lineEnded : Pen → Pen
 lineEnded p = if eqb (p .w .last) LF then p else put1 p LF
 
-unfoldable pub withInline : ℕ → Writer → Writer
+unfoldable pub withInline : ℕ → Fields → Fields
 withInline m w =
     record {
       len = w .len;
@@ -81,7 +111,7 @@ withInline m w =
       raw = w .raw;
     }
 
-unfoldable pub withRaw : ℕ → Writer → Writer
+unfoldable pub withRaw : ℕ → Fields → Fields
 withRaw m w =
     record {
       len = w .len;
@@ -99,16 +129,16 @@ withRaw m w =
 unfoldable pub noted : ℕ → Inline → Pen → Pen
 noted place c p =
     let q = puts (inlineText c) p in
-    if eqb (p .w .inline) (place + 1) then p else pen (withInline (place + 1) (q .w)) (q .out)
+    if eqb (p .w .inline) (place + 1) then p else page (withInline (place + 1) (q .w)) (q .out)
 
 -- a raw text, and where it ended if it has no line break there
 unfoldable pub rawed : Bytes → Pen → Pen
-rawed t p = let q = puts t p in if endsClosed t then q else pen (withRaw (q .w .len + 1) (q .w)) (q .out)
+rawed t p = let q = puts t p in if endsClosed t then q else page (withRaw (q .w .len + 1) (q .w)) (q .out)
 
 -- the byte put last, taken away again
 unfoldable pub unput : Pen → Pen
 unput p =
-    pen
+    page
     (record {
       len = p .w .len - 1;
       last = p .w .last;
@@ -125,6 +155,40 @@ unput p =
 -- `finish`: the last line break is dropped, if it directly follows a raw text that has none of its own
 unfoldable pub ended : Pen → Pen
 ended p = if eqb (p .w .raw) 0 then p else if eqb (p .w .len) (p .w .raw) then (if eqb (p .w .last) LF then unput p else p) else p
+
+-- ---- flow depth and key mark
+
+unfoldable pub withFlow : ℕ → Pen → Pen
+withFlow n p =
+    page
+    (record {
+      len = p .w .len;
+      last = p .w .last;
+      under = p .w .under;
+      column = p .w .column;
+      tracks = p .w .tracks;
+      flow = n;
+      key = p .w .key;
+      inline = p .w .inline;
+      raw = p .w .raw;
+    })
+    (p .out)
+
+unfoldable pub withKey : ℕ → Pen → Pen
+withKey n p =
+    page
+    (record {
+      len = p .w .len;
+      last = p .w .last;
+      under = p .w .under;
+      column = p .w .column;
+      tracks = p .w .tracks;
+      flow = p .w .flow;
+      key = n;
+      inline = p .w .inline;
+      raw = p .w .raw;
+    })
+    (p .out)
 
 -- ---- a script, its scalars by the bytes at a place
 

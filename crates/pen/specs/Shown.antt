@@ -23,8 +23,7 @@ use Rattle.definition.specs.declared.Settings.{Settings}
 use Rattle.definition.specs.declared.Style.{Style}
 use Rattle.definition.specs.declared.Style.the-variants.{Plain, Single, Double, Literal, Folded}
 use Rattle.laws.specs.Leaf.{scalar-same}
-use Rattle.pen.specs.declared.Writer.{Writer}
-use Rattle.pen.specs.Pen.{Pen, pen, columnAfter, put1, puts, lineEnded, withInline, withRaw, noted, noteOf, rawed, unput, ended, ink}
+use Rattle.pen.specs.Pen.{Fields, Pen, page, columnAfter, put1, puts, lineEnded, withInline, withRaw, noted, noteOf, rawed, unput, ended, ink}
 
 -- ---- bytes laid over what was there, as far as there is room; `back` is what is written, last byte first
 
@@ -117,7 +116,7 @@ column-short (b ∷ out) = go (eqb b LF) (column-short out)
     go true h = omega arith
     go false h = omega arith
 
-column-after : (w : Writer) (out : Bytes) (most b : ℕ) → (w .tracks ≡ 0 → ⊥) → w .column ≡ column one out → suc (length out) ≤ most
+column-after : (w : Fields) (out : Bytes) (most b : ℕ) → (w .tracks ≡ 0 → ⊥) → w .column ≡ column one out → suc (length out) ≤ most
     → columnAfter w most b ≡ column one (b ∷ out)
 unfolding columnAfter column
 column-after w out most b t e h = rw (ne-eqb _ _ t, e) (go (eqb b LF))
@@ -245,7 +244,7 @@ at-mark (some q) p = go (eqb q p) refl
 unfoldable marked : ℕ → St → St
 marked m x = record { out = x .out; inline = some m; rawEnd = x .rawEnd }
 
-inline-shows : (orig : Bytes) (k : ℕ) (q : Pen) (y : St) (m : ℕ) → Shows orig k q y → Shows orig k (pen (withInline (m + 1) (q .w)) (q .out)) (marked m y)
+inline-shows : (orig : Bytes) (k : ℕ) (q : Pen) (y : St) (m : ℕ) → Shows orig k q y → Shows orig k (page (withInline (m + 1) (q .w)) (q .out)) (marked m y)
 unfolding withInline marked
 inline-shows orig k q y m h = record {
   size = h .size;
@@ -287,7 +286,7 @@ note-shows orig k place c p x h =
 unfoldable rawEnded : St → St
 rawEnded y = record { out = y .out; inline = y .inline; rawEnd = some (length (y .out)) }
 
-raw-shows : (orig : Bytes) (k : ℕ) (q : Pen) (y : St) → Shows orig k q y → Shows orig k (pen (withRaw (q .w .len + 1) (q .w)) (q .out)) (rawEnded y)
+raw-shows : (orig : Bytes) (k : ℕ) (q : Pen) (y : St) → Shows orig k q y → Shows orig k (page (withRaw (q .w .len + 1) (q .w)) (q .out)) (rawEnded y)
 unfolding withRaw rawEnded
 raw-shows orig k q y h = record {
   size = h .size;
@@ -306,7 +305,7 @@ replay-shows orig k t p x h = go (endsClosed t)
     done : Shows orig k (puts t p) (write t x)
     done = puts-shows t orig k p x h
 
-    go : (b : Bool) → Shows orig k (if b then puts t p else pen (withRaw (puts t p .w .len + 1) (puts t p .w)) (puts t p .out))
+    go : (b : Bool) → Shows orig k (if b then puts t p else page (withRaw (puts t p .w .len + 1) (puts t p .w)) (puts t p .out))
         (record { out = reverseAux t (x .out); inline = x .inline; rawEnd = if b then x .rawEnd else some (length (reverseAux t (x .out))) })
     go true = unfold write in done
     go false = unfold write rawEnded in raw-shows orig k (puts t p) (write t x) done
@@ -366,13 +365,25 @@ module _ (s : Settings) where
 
 -- ---- a file: from a new writer to its end
 
--- a writer that has written nothing
-unfoldable pub fresh : ℕ → ℕ → ℕ → Writer
-fresh k f y = record { len = 0; last = 0; under = 0; column = 0; tracks = k; flow = f; key = y; inline = 0; raw = 0 }
+-- columns are kept where lines are folded
+unfoldable pub keeps : ℕ → ℕ
+keeps width = if eqb width 0 then 0 else 1
 
-fresh-shows : (orig : Bytes) (k f y : ℕ) → Shows orig k (pen (fresh k f y) orig) start
-unfolding fresh start
-fresh-shows orig k f y = record {
+keeps-none : (width : ℕ) → keeps width ≡ 0 → width ≡ 0
+unfolding keeps
+keeps-none width = go (eqb width 0) refl
+  where
+    go : (b : Bool) → eqb width 0 ≡ b → _≡_ {A = ℕ} (if b then 0 else 1) 0 → width ≡ 0
+    go true e h = eqb-true width 0 e
+    go false e h = absurd (omega arith)
+
+-- a writer that has written nothing
+unfoldable pub begun : Settings → Fields
+begun s = record { len = 0; last = 0; under = 0; column = 0; tracks = keeps (s .width); flow = 0; key = 0; inline = 0; raw = 0 }
+
+begun-shows : (s : Settings) (orig : Bytes) → Shows orig (keeps (s .width)) (page (begun s) orig) start
+unfolding begun start
+begun-shows s orig = record {
   size = refl;
   tracks = refl;
   len = omega arith;
@@ -476,18 +487,21 @@ pub record Leaves (orig t : Bytes) (p : Pen) : Type 0 where
   pub fits : length t ≤ length orig → (p .w .len ≡ length t) × (p .out ≡ t ++ drop (length t) orig)
   pub over : length orig < length t → length orig < p .w .len
 
-pub leaves : (s : Settings) (a : Script) → Sound a → (orig : Bytes) (k f y : ℕ) → (k ≡ 0 → s .width ≡ 0) → Leaves orig (bytesOf s a) (ended (ink s a (pen (fresh k f y) orig)))
+pub leaves : (s : Settings) (a : Script) → Sound a → (orig : Bytes) → Leaves orig (bytesOf s a) (ended (ink s a (page (begun s) orig)))
 unfolding bytesOf
-leaves s a z orig k f y g = go (ltb (length orig + 2) (length (run s a start .out))) refl
+leaves s a z orig = go (ltb (length orig + 2) (length (run s a start .out))) refl
   where
+    k : ℕ
+    k = keeps (s .width)
+
     p : Pen
-    p = ink s a (pen (fresh k f y) orig)
+    p = ink s a (page (begun s) orig)
 
     x : St
     x = run s a start
 
     h : Shows orig k p x
-    h = ink-shows s a z orig k g (pen (fresh k f y) orig) start (fresh-shows orig k f y)
+    h = ink-shows s a z orig k (keeps-none (s .width)) (page (begun s) orig) start (begun-shows s orig)
 
     back : Bytes
     back = finished (x .rawEnd) (x .out)

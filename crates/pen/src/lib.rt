@@ -1,35 +1,34 @@
 // The pen: a writer by value over a lent slice. It stores only inside the room, and counts two past it at most, so that whether the
 // finished bytes fit is known also where the last line break is dropped again.
 ghost use mathlib.Core.Path.{_≡_};
-ghost use Prim.Native.Nat.{_+_, _-_, _<_, _≤_, _^_, min, max};
+ghost use Prim.Native.Nat.{_+_, _-_, _/_, _%_, _<_, _≤_, _^_, min, max};
+ghost use mathlib.Core.List.{[]};
 ghost use lib.ListN.{length, getD, replicate};
 ghost use lib.Seq.{sets};
 ghost use lib.Dec.{eqb, leb};
 ghost use Rattle.definition.specs.Base.{if_then_else_, spaces};
 ghost use Rattle.definition.specs.Pen.{hashed, endsClosed};
-ghost use Rattle.pen.specs.Pen.{pen, put1, puts, columnAfter, columnOver, lineEnded, noted, rawed, unput, ended};
+ghost use Rattle.pen.specs.Pen.{fields, pen, put1, puts, columnAfter, columnOver, lineEnded, withFlow, withKey, noted, rawed, unput, ended};
 
-// `len`: how many bytes were put, at most the room and two. `last`: the byte put last, 0 at the start. `under`: what that byte was put over, 0
-// past the room. `column`: the columns since the last line break, at most the room and two; it is kept only where `tracks` is not 0.
-// `flow`: how many flow collections are open. `key`: not 0 inside an inline key. `inline`: one more than the place of the node whose inline
-// comment was written last, 0 at the start. `raw`: one more than where the last raw text ended without a line break, 0 at the start.
-// Fields that most functions change and fields that they hand on take turns: in another order the compiler copies more (docs/DECISIONS.md).
+// `len`: how many bytes were put, at most the room and two. `raw`: one more than where the last raw text ended without a line break, 0 at the
+// start. `edge`: the byte put last, 0 at the start, times 256, and what it was put over, 0 past the room. `inline`: one more than the place of the
+// node whose inline comment was written last, 0 at the start. `column`: the columns since the last line break, at most the room and two; kept only
+// where the mode says so. `mode`: how many flow collections are open, times 4; 2 where columns are kept; 1 inside an inline key.
+// Two numbers hold five, since a writer goes through memory at every call; in another order of these six the compiler copies more (docs/SPEED.md).
 pub struct Writer {
     pub len: usize,
-    pub flow: usize,
-    pub last: usize,
-    pub key: usize,
-    pub under: usize,
+    pub raw: usize,
+    pub edge: usize,
     pub inline: usize,
     pub column: usize,
-    pub raw: usize,
-    pub tracks: usize,
+    pub mode: usize,
 }
 
-fn wide(b: u8) -> usize
-    ensures { λ r. ⌜ r ≡ b ⌝ }
+// Two bytes in one number.
+fn edge_of(last: u8, under: u8) -> usize
+    ensures { λ r. ⌜ (r / 256 ≡ last) × (r % 256 ≡ under) ⌝ }
 {
-    b as usize
+    last as usize * 256 + under as usize
 }
 
 // One more, but never more than `most`.
@@ -112,12 +111,12 @@ fn end_of(len: usize, n: usize, most: usize) -> usize
 }
 
 // What the last of `n` bytes from `len` on is put over: 0 past the room.
-fn under_last(out: &[u8], len: usize, n: usize) -> usize
+fn under_last(out: &[u8], len: usize, n: usize) -> u8
     requires { ⌜ 0 < n ⌝ }
     ensures { λ r. ⌜ r ≡ getD (now (out .entry)) (len + n - 1) 0 ⌝ }
 {
     if has_room(len, n, out.len()) {
-        return wide(out[len + n - 1]);
+        return out[len + n - 1];
     }
     0
 }
@@ -183,23 +182,50 @@ impl Writer {
     {
         Writer {
             len: self.len,
-            flow: self.flow,
-            last: self.last,
-            key: self.key,
-            under: self.under,
+            raw: self.raw,
+            edge: self.edge,
             inline: self.inline,
             column: self.column,
-            raw: self.raw,
-            tracks: self.tracks,
+            mode: self.mode,
         }
+    }
+
+    // How many flow collections are open.
+    pub fn flow(self) -> usize
+        ensures { λ r. ⌜ r ≡ fields self .flow ⌝ }
+    {
+        self.mode / 4
+    }
+
+    // Not 0 inside an inline key.
+    pub fn key(self) -> usize
+        ensures { λ r. ⌜ r ≡ fields self .key ⌝ }
+    {
+        self.mode % 2
+    }
+
+    pub fn with_flow(mut self, n: usize) -> Self
+        requires { ⌜ n < 2 ^ 60 ⌝ }
+        ensures { λ r. ⌜ pen r [] ≡ withFlow n (pen self []) ⌝ }
+    {
+        self.mode = n * 4 + self.mode % 4;
+        self
+    }
+
+    pub fn with_key(mut self, n: usize) -> Self
+        requires { ⌜ n < 2 ⌝ }
+        ensures { λ r. ⌜ pen r [] ≡ withKey n (pen self []) ⌝ }
+    {
+        self.mode = self.mode - self.mode % 2 + n;
+        self
     }
 
     // The column after a byte.
     fn column_after(self, most: usize, b: u8) -> usize
         requires { ⌜ most < 2 ^ 63 ⌝ }
-        ensures { λ r. ⌜ r ≡ columnAfter self most b ⌝ }
+        ensures { λ r. ⌜ r ≡ columnAfter (fields self) most b ⌝ }
     {
-        if self.tracks == 0 {
+        if self.mode / 2 % 2 == 0 {
             return self.column;
         }
         next_column(self.column, most, b)
@@ -213,14 +239,13 @@ impl Writer {
         let len = self.len;
         let column = self.column_after(most, b);
         self.column = column;
-        self.last = wide(b);
         self.len = up_to(len, most);
         if len < out.len() {
-            self.under = wide(out[len]);
+            self.edge = edge_of(b, out[len]);
             out[len] = b;
             return self;
         }
-        self.under = 0;
+        self.edge = edge_of(b, 0);
         self
     }
 
@@ -234,9 +259,9 @@ impl Writer {
         }
         let len = self.len;
         let most = out.len() + 2;
-        self.column = column_over(self.tracks, self.column, most, t);
-        self.last = wide(t[n - 1]);
-        self.under = under_last(out, len, n);
+        self.column = column_over(self.mode / 2 % 2, self.column, most, t);
+        let under = under_last(out, len, n);
+        self.edge = edge_of(t[n - 1], under);
         self.len = end_of(len, n, most);
         store(out, len, t);
         self
@@ -252,9 +277,9 @@ impl Writer {
         }
         let len = self.len;
         let most = out.len() + 2;
-        self.column = column_again(self.tracks, self.column, most, b, n);
-        self.last = wide(b);
-        self.under = under_last(out, len, n);
+        self.column = column_again(self.mode / 2 % 2, self.column, most, b, n);
+        let under = under_last(out, len, n);
+        self.edge = edge_of(b, under);
         self.len = end_of(len, n, most);
         store_again(out, len, b, n);
         self
@@ -271,7 +296,7 @@ impl Writer {
         requires { ⌜ length (now out) < 2 ^ 62 ⌝ }
         ensures { λ r. ⌜ pen r (now (out .exit)) ≡ lineEnded (pen self (now (out .entry))) ⌝ }
     {
-        if self.last == 10 {
+        if self.edge / 256 == 10 {
             return self;
         }
         self.byte(out, b'\n')
@@ -320,11 +345,11 @@ impl Writer {
 
     // Takes the byte put last away again, and puts back what it was put over.
     fn dropped(mut self, out: &mut [u8]) -> Self
-        requires { ⌜ (0 < self .len) × (self .under < 256) ⌝ }
+        requires { ⌜ 0 < self .len ⌝ }
         ensures { λ r. ⌜ pen r (now (out .exit)) ≡ unput (pen self (now (out .entry))) ⌝ }
     {
         let len = self.len - 1;
-        let under = (self.under % 256) as u8;
+        let under = (self.edge % 256) as u8;
         self.len = len;
         if len < out.len() {
             out[len] = under;
@@ -334,7 +359,6 @@ impl Writer {
 
     // The end of a file: its last line break is dropped, if it directly follows a raw text that has none of its own.
     pub fn finish(self, out: &mut [u8]) -> Self
-        requires { ⌜ self .under < 256 ⌝ }
         ensures { λ r. ⌜ pen r (now (out .exit)) ≡ ended (pen self (now (out .entry))) ⌝ }
     {
         if self.raw == 0 {
@@ -343,7 +367,7 @@ impl Writer {
         if self.len != self.raw {
             return self;
         }
-        if self.last != 10 {
+        if self.edge / 256 != 10 {
             return self;
         }
         self.dropped(out)

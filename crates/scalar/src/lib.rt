@@ -10,7 +10,7 @@ ghost use Rattle.definition.specs.Fold.{size, hasBreakable};
 ghost use Rattle.definition.specs.Block.{blockHeader, blockBody};
 ghost use Rattle.definition.specs.Settings.{weightOf, folds};
 ghost use Rattle.definition.specs.Scalar.{startsBom, unsafeInFlow, mustQuote, separator};
-ghost use Rattle.laws.specs.Leaf.{quotableAt, quotedAt, ownAt, scalarBytes};
+ghost use Rattle.laws.specs.Leaf.{quotableAt, quotedAt, styledAt, ownAt, scalarBytes};
 ghost use Rattle.pen.specs.Pen.{pen, puts};
 ghost use Rattle.scalar.specs.Tests.{refusedAt, flowMark, unsafeAt};
 use blocks::put_block_body;
@@ -171,13 +171,29 @@ fn prefers_single(settings: Settings, t: &[u8]) -> bool
     false
 }
 
+// A text in quotes. Here and in `put_lined` the writer is handed on made anew: so it need not be in memory where a plain text is written.
+fn put_quotes(
+    w: Writer,
+    out: &mut [u8],
+    settings: Settings,
+    key: bool,
+    single: bool,
+    t: &[u8],
+) -> Writer
+    requires { ⌜ (length (now t) ≤ 65536) × (w .column < 2 ^ 63) × (length (now out) < 2 ^ 62) ⌝ }
+    ensures { λ r. ⌜ pen r (now (out .exit)) ≡ puts (styledAt settings key single (now (t .entry)) (w .column)) (pen w (now (out .entry))) ⌝ }
+{
+    let u = w.anew();
+    put_styled(u, out, settings, key, single, t)
+}
+
 // A text that has no quotes of its own, quoted as the settings ask.
 fn put_own(w: Writer, out: &mut [u8], settings: Settings, key: bool, t: &[u8]) -> Writer
     requires { ⌜ (length (now t) ≤ 65536) × (w .column < 2 ^ 63) × (length (now out) < 2 ^ 62) ⌝ }
     ensures { λ r. ⌜ pen r (now (out .exit)) ≡ puts (ownAt settings key (now (t .entry)) (w .column)) (pen w (now (out .entry))) ⌝ }
 {
     let single = prefers_single(settings, t);
-    put_styled(w, out, settings, key, single, t)
+    put_quotes(w, out, settings, key, single, t)
 }
 
 // A plain scalar: as it is, unless it must be quoted.
@@ -222,6 +238,24 @@ fn put_block(
     put_block_body(w, out, t, indent)
 }
 
+fn put_lined(
+    w: Writer,
+    out: &mut [u8],
+    settings: Settings,
+    flow: bool,
+    t: &[u8],
+    marker: u8,
+    indent: usize,
+) -> Writer
+    requires { ⌜ (length (now t) ≤ 65536) × (w .column < 2 ^ 63) × (length (now out) < 2 ^ 62) ⌝ }
+    ensures { λ r. ⌜ pen r (now (out .exit)) ≡ puts
+        (if flow then quotedAt false (now (t .entry)) else blockHeader marker (now (t .entry)) ++ blockBody indent (now (t .entry)))
+        (pen w (now (out .entry))) ⌝ }
+{
+    let u = w.anew();
+    put_block(u, out, settings, flow, t, marker, indent)
+}
+
 // A scalar, in flow or not, in a key or not; `indent` is the column of a block scalar's lines.
 pub fn put_scalar(
     w: Writer,
@@ -238,10 +272,10 @@ pub fn put_scalar(
 {
     match style {
         Style::Plain => put_plain(w, out, settings, flow, key, t),
-        Style::Single => put_styled(w, out, settings, key, true, t),
-        Style::Double => put_styled(w, out, settings, key, false, t),
-        Style::Literal => put_block(w, out, settings, flow, t, b'|', indent),
-        Style::Folded => put_block(w, out, settings, flow, t, b'>', indent),
+        Style::Single => put_quotes(w, out, settings, key, true, t),
+        Style::Double => put_quotes(w, out, settings, key, false, t),
+        Style::Literal => put_lined(w, out, settings, flow, t, b'|', indent),
+        Style::Folded => put_lined(w, out, settings, flow, t, b'>', indent),
     }
 }
 

@@ -17,17 +17,16 @@ use Rattle.definition.specs.Tree.{Inline}
 use Rattle.definition.specs.Pen.{Script, put, endLine, comment, replay, leaf, comma, _>>_, inlineText, endsClosed}
 use Rattle.definition.specs.declared.Settings.{Settings}
 use Rattle.laws.specs.Leaf.{scalarBytes}
-use Rattle.pen.specs.declared.Writer.{Writer}
-use Rattle.pen.specs.Pen.{Pen, pen, columnAfter, put1, puts, lineEnded, withInline, withRaw, noted, noteOf, rawed, unput, ended, ink}
-use Rattle.pen.specs.Shown.{fresh}
+use Rattle.pen.specs.Pen.{Fields, Pen, page, columnAfter, put1, puts, lineEnded, withInline, withRaw, noted, noteOf, rawed, unput, ended, withFlow, withKey, ink}
+use Rattle.pen.specs.Shown.{begun}
 
 -- ---- what every step leaves true, every script does
 
 unfoldable noting : ℕ → Pen → Pen
-noting m p = pen (withInline m (p .w)) (p .out)
+noting m p = page (withInline m (p .w)) (p .out)
 
 unfoldable rawing : Pen → Pen
-rawing p = pen (withRaw (p .w .len + 1) (p .w)) (p .out)
+rawing p = page (withRaw (p .w .len + 1) (p .w)) (p .out)
 
 record Stable (P : Pen → Type 0) : Type 0 where
   one : (p : Pen) (b : ℕ) → P p → P (put1 p b)
@@ -124,15 +123,12 @@ ink-length s a p = ink-steady _ length-steady s a p
 
 -- ---- the bounds on the counts
 
--- Nothing is counted further than two past the room. What the byte put last was put over, and what stands where nothing is written yet, are
--- bytes: so no bound on what a script writes is needed.
+-- Nothing is counted further than two past the room.
 pub record Fit (p : Pen) : Type 0 where
   pub len : p .w .len ≤ length (p .out) + 2
   pub column : p .w .column ≤ length (p .out) + 2
-  pub under : p .w .under < 256
-  pub ahead : (k : ℕ) → p .w .len ≤ k → getD (p .out) k 0 < 256
 
-column-fit : (w : Writer) (most b : ℕ) → w .column ≤ most → columnAfter w most b ≤ most
+column-fit : (w : Fields) (most b : ℕ) → w .column ≤ most → columnAfter w most b ≤ most
 unfolding columnAfter
 column-fit w most b h = go (eqb (w .tracks) 0) (eqb b LF)
   where
@@ -141,28 +137,15 @@ column-fit w most b h = go (eqb (w .tracks) 0) (eqb b LF)
     go false true = omega arith
     go false false = omega arith
 
--- past the room is nothing, and before it one byte changes
-ahead-fit : (o : Bytes) (n b : ℕ) → ((k : ℕ) → n ≤ k → getD o k 0 < 256) → (k : ℕ) → min (n + 1) (length o + 2) ≤ k → getD (set o n b) k 0 < 256
-ahead-fit o n b h k l = go (ltb k (length o)) refl
-  where
-    go : (c : Bool) → ltb k (length o) ≡ c → getD (set o n b) k 0 < 256
-    go true e =
-        let z : k < length o = ltb-true _ _ e in
-        let m : n ≤ k = omega arith in
-        rw (getD-set-other o n k b 0 (λ (q : k ≡ n). omega arith)) (h k m)
-    go false e = let z : length o ≤ k = ltb-false _ _ e in rw (List·getD-eq-default (set o n b) 0 {n = k} (rw length-set z)) (omega arith)
-
 fit-stable : Stable Fit
 unfolding put1 noting rawing withInline withRaw
 fit-stable = record {
   one = λ p b h. record {
     len = rw length-set (omega arith);
     column = rw length-set (column-fit (p .w) (length (p .out) + 2) b (h .column));
-    under = h .ahead (p .w .len) (omega arith);
-    ahead = ahead-fit (p .out) (p .w .len) b (h .ahead);
   };
-  note = λ p m h. record { len = h .len; column = h .column; under = h .under; ahead = h .ahead };
-  raw = λ p h. record { len = h .len; column = h .column; under = h .under; ahead = h .ahead };
+  note = λ p m h. record { len = h .len; column = h .column };
+  raw = λ p h. record { len = h .len; column = h .column };
 }
 
 pub puts-fit : (t : Bytes) (p : Pen) → Fit p → Fit (puts t p)
@@ -171,44 +154,12 @@ puts-fit t p h = puts-stable Fit fit-stable t p h
 pub ink-fit : (s : Settings) (a : Script) (p : Pen) → Fit p → Fit (ink s a p)
 ink-fit s a p h = ink-stable Fit fit-stable s a p h
 
--- a writer that has written nothing, over a slice of bytes
-pub fresh-fit : (k f y : ℕ) (orig : Bytes) → ((i : ℕ) → getD orig i 0 < 256) → Fit (pen (fresh k f y) orig)
-unfolding fresh
-fresh-fit k f y orig h = record { len = omega arith; column = omega arith; under = omega arith; ahead = λ i l. h i }
+-- a writer that has written nothing
+pub begun-fit : (s : Settings) (orig : Bytes) → Fit (page (begun s) orig)
+unfolding begun
+begun-fit s orig = record { len = omega arith; column = omega arith }
 
 -- ---- flow depth and key mark, which no step looks at
-
-unfoldable pub withFlow : ℕ → Pen → Pen
-withFlow n p =
-    pen
-    (record {
-      len = p .w .len;
-      last = p .w .last;
-      under = p .w .under;
-      column = p .w .column;
-      tracks = p .w .tracks;
-      flow = n;
-      key = p .w .key;
-      inline = p .w .inline;
-      raw = p .w .raw;
-    })
-    (p .out)
-
-unfoldable pub withKey : ℕ → Pen → Pen
-withKey n p =
-    pen
-    (record {
-      len = p .w .len;
-      last = p .w .last;
-      under = p .w .under;
-      column = p .w .column;
-      tracks = p .w .tracks;
-      flow = p .w .flow;
-      key = n;
-      inline = p .w .inline;
-      raw = p .w .raw;
-    })
-    (p .out)
 
 -- a change of the pen that no step sees
 record Unseen (f : Pen → Pen) : Type 0 where
@@ -305,11 +256,11 @@ with-flow-key m n p = refl
 
 pub with-flow-fit : (n : ℕ) (p : Pen) → Fit p → Fit (withFlow n p)
 unfolding withFlow
-with-flow-fit n p h = record { len = h .len; column = h .column; under = h .under; ahead = h .ahead }
+with-flow-fit n p h = record { len = h .len; column = h .column }
 
 pub with-key-fit : (n : ℕ) (p : Pen) → Fit p → Fit (withKey n p)
 unfolding withKey
-with-key-fit n p h = record { len = h .len; column = h .column; under = h .under; ahead = h .ahead }
+with-key-fit n p h = record { len = h .len; column = h .column }
 
 -- a script between setting a mark and setting it back
 pub ink-in-flow : (s : Settings) (a : Script) (n : ℕ) (p : Pen) → withFlow (p .w .flow) (ink s a (withFlow n p)) ≡ ink s a p

@@ -20,8 +20,8 @@ use Rattle.definition.specs.declared.NullStyle.{NullStyle}
 use Rattle.definition.specs.declared.NullStyle.the-variants.{Null}
 use Rattle.definition.specs.declared.Settings.{Settings}
 use Rattle.definition.specs.declared.Cursor.{Cursor}
-use Rattle.pen.specs.Pen.{Pen, pen, ended, ink}
-use Rattle.pen.specs.Shown.{Sound, fresh, Leaves, leaves}
+use Rattle.pen.specs.Pen.{Pen, page, ended, ink}
+use Rattle.pen.specs.Shown.{Sound, begun, Leaves, leaves}
 use Rattle.told.specs.Read.{sound-read-one, sound-read-all}
 
 -- ---- refusals 1 to 8
@@ -158,21 +158,21 @@ leaves-told deck pool orig t q h = go (ltb (length orig) (length t)) refl
         let f = h .fits l in
         sym (told-fits q (lent deck pool orig) (rw (f .0) l) ∙ rw (f .0, f .1))
 
--- from a new writer over the slice to the end; columns are kept where lines are folded
-module _ (s : Settings) (deck pool orig : Bytes) (k f y : ℕ) (g : k ≡ 0 → s .width ≡ 0) where
-  script-told : (a : Script) → Sound a → (q : Pen) → q ≡ ended (ink s a (pen (fresh k f y) orig))
+-- from a new writer over the slice to the end
+module _ (s : Settings) (deck pool orig : Bytes) where
+  script-told : (a : Script) → Sound a → (q : Pen) → q ≡ ended (ink s a (page (begun s) orig))
       → handed (bytesOf s a) [] (lent deck pool orig) ≡ told q (lent deck pool orig)
-  script-told a z q e = leaves-told deck pool orig (bytesOf s a) q (subst (Leaves orig (bytesOf s a)) (sym e) (leaves s a z orig k f y g))
+  script-told a z q e = leaves-told deck pool orig (bytesOf s a) q (subst (Leaves orig (bytesOf s a)) (sym e) (leaves s a z orig))
 
   module _ (z : Settled s) (l : Small (lent deck pool orig)) where
     pub all-told : (ns : List Node) (c : Cursor) → readDeck deck pool ≡ got ns c → (q : Pen)
-        → q ≡ ended (ink s (allDocuments s ns) (pen (fresh k f y) orig)) → writeAll s (lent deck pool orig) ≡ told q (lent deck pool orig)
+        → q ≡ ended (ink s (allDocuments s ns) (page (begun s) orig)) → writeAll s (lent deck pool orig) ≡ told q (lent deck pool orig)
     unfolding all-judged emitAll
     all-told ns c e q h =
         read-trees (all-judged s) (lent deck pool orig) ns c z l e ∙ script-told (allDocuments s ns) (sound-read-all deck pool s ns c e) q h
 
     pub one-told : (n : Node) (c : Cursor) → readDeck deck pool ≡ got (n ∷ []) c → (q : Pen)
-        → q ≡ ended (ink s (oneDocument s false n) (pen (fresh k f y) orig)) → writeOne s (lent deck pool orig) ≡ told q (lent deck pool orig)
+        → q ≡ ended (ink s (oneDocument s false n) (page (begun s) orig)) → writeOne s (lent deck pool orig) ≡ told q (lent deck pool orig)
     unfolding one-judged onOne emitOne
     one-told n c e q h =
         read-trees (one-judged s) (lent deck pool orig) (n ∷ []) c z l e ∙ script-told (oneDocument s false n) (sound-read-one deck pool s n c e) q h

@@ -14,8 +14,8 @@ use Rattle.definition.specs.Calls.{noRoom}
 use Rattle.definition.specs.declared.Settings.{Settings}
 use Rattle.node.specs.Total.{treesOf}
 use Rattle.pen.specs.declared.Writer.{Writer}
-use Rattle.pen.specs.Pen.{Pen, pen, ink, ended}
-use Rattle.pen.specs.Shown.{fresh}
+use Rattle.pen.specs.Pen.{Fields, Pen, fields, page, pen, ink, ended}
+use Rattle.pen.specs.Shown.{begun}
 use Rattle.scripts.specs.Keep.{ended-length-of}
 use Rattle.agree.specs.Accepted as agreed
 use Rattle.joints.specs.Entries.{nodeAt}
@@ -49,28 +49,28 @@ module _ (s : Settings) (deck pool orig : Bytes) where
 
     -- ---- the emission
 
-    pub begin-at : (w : Writer) → w ≡ fresh (s .width) 0 0 → ((i : ℕ) → getD orig i 0 < 256) → Calm s deck pool (pen w orig) 0 0
-    begin-at w f b = rw f (begin s deck pool orig (s .width) (l .deck) (l .pool) (l .output) (z .indent) b)
+    pub begin-at : (w : Writer) → fields w ≡ begun s → Calm s deck pool (pen w orig) 0 0
+    begin-at w f = rw f (begin s deck pool orig (l .deck) (l .pool) (l .output) (z .indent))
 
     pub one-answered :
-        (w v : Writer) (out out′ : Bytes) (r : Answer) → agreed.Accepted deck pool 1 → w ≡ fresh (s .width) 0 0
+        (w v : Writer) (out out′ : Bytes) (r : Answer) → agreed.Accepted deck pool 1 → fields w ≡ begun s
         → pen v out ≡ ended (ink s (oneDocument s false (nodeAt deck pool (record { at = 0 }))) (pen w orig)) → Tells (pen v out) r out′
         → outcomeOf r out′ [] ≡ written s false (lent deck pool orig)
     unfolding written
     one-answered w v out out′ r g f q t =
         let n : Node = nodeAt deck pool (record { at = 0 }) in
         let e : readDeck deck pool ≡ got (n ∷ []) (g .end) = g .read ∙ ap (λ (ns : List Node). got ns (g .end)) (agreed.one-tree deck pool (g .count)) in
-        let u : pen v out ≡ ended (ink s (oneDocument s false n) (pen (fresh (s .width) 0 0) orig)) = q ∙ ap (λ (x : Writer). ended (ink s (oneDocument s false n) (pen x orig))) f in
-        t .tells deck pool orig (ended-length-of s (oneDocument s false n) (pen w orig) (pen v out) q) ∙ sym (one-told s deck pool orig (s .width) 0 0 (λ x. x) z l n (g .end) e (pen v out) u)
+        let u : pen v out ≡ ended (ink s (oneDocument s false n) (page (begun s) orig)) = q ∙ ap (λ (x : Fields). ended (ink s (oneDocument s false n) (page x orig))) f in
+        t .tells deck pool orig (ended-length-of s (oneDocument s false n) (pen w orig) (pen v out) q) ∙ sym (one-told s deck pool orig z l n (g .end) e (pen v out) u)
 
     pub all-answered :
-        (n : ℕ) (w v : Writer) (out out′ : Bytes) (r : Answer) → agreed.Accepted deck pool n → w ≡ fresh (s .width) 0 0
+        (n : ℕ) (w v : Writer) (out out′ : Bytes) (r : Answer) → agreed.Accepted deck pool n → fields w ≡ begun s
         → pen v out ≡ ended (ink s (allDocuments s (treesOf deck pool)) (pen w orig)) → Tells (pen v out) r out′
         → outcomeOf r out′ [] ≡ written s true (lent deck pool orig)
     unfolding written
     all-answered n w v out out′ r g f q t =
-        let u : pen v out ≡ ended (ink s (allDocuments s (treesOf deck pool)) (pen (fresh (s .width) 0 0) orig)) = q ∙ ap (λ (x : Writer). ended (ink s (allDocuments s (treesOf deck pool)) (pen x orig))) f in
-        t .tells deck pool orig (ended-length-of s (allDocuments s (treesOf deck pool)) (pen w orig) (pen v out) q) ∙ sym (all-told s deck pool orig (s .width) 0 0 (λ x. x) z l (treesOf deck pool) (g .end) (g .read) (pen v out) u)
+        let u : pen v out ≡ ended (ink s (allDocuments s (treesOf deck pool)) (page (begun s) orig)) = q ∙ ap (λ (x : Fields). ended (ink s (allDocuments s (treesOf deck pool)) (page x orig))) f in
+        t .tells deck pool orig (ended-length-of s (allDocuments s (treesOf deck pool)) (pen w orig) (pen v out) q) ∙ sym (all-told s deck pool orig z l (treesOf deck pool) (g .end) (g .read) (pen v out) u)
 
 -- ---- the end of a run
 

@@ -1,10 +1,14 @@
-use Rattle.pen.specs.Shown.{fresh}
+use borrow.Author.Needs.{needs}
+use Rattle.pen.specs.Shown.{begun}
 use Rattle.document.proofs.fresh_writer.Statement.{statement}
 use Rattle.document.proofs.fresh_writer.Tie as tie
 
+first-mode-requires : tie.Need-first-mode-requires
+first-mode-requires c κs = search needs
+
 returns : tie.Need-returns
-unfolding fresh
-returns c = cc
+unfolding begun
+returns c = let e = c .first-mode .ensures in rw (e .0, e .1, e .2)
 
 pub fresh-writer-spec : {M : Type 1} → statement M
-fresh-writer-spec = tie.close (tie.spec returns)
+fresh-writer-spec = tie.close (tie.spec first-mode-requires returns)

@@ -1,5 +1,4 @@
 -- `document::write_all` meets its contract.
-use Rattle.layout.specs.Calm.{calm-after}
 use mathlib.Core.Path.{refl, ap, _∙_}
 use Rattle.pen.specs.Pen.{ended}
 use Rattle.document.proofs.Laws.{all-whole}
@@ -11,7 +10,7 @@ put-documents-requires : tie.Need-put-documents-requires
 put-documents-requires c κs = search needs
 
 finish-requires : tie.Need-finish-requires
-finish-requires c κs = calm-after (c .before .before .before .before .before .before .before .before .pre) _ _ _ (c .before .before .before .put-documents .ensures) .ready .fit .under
+finish-requires c κs = search needs
 
 same-length : tie.Need-same-length
 same-length c = search needs

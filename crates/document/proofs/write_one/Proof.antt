@@ -1,5 +1,4 @@
 -- `document::write_one` meets its contract.
-use Rattle.layout.specs.Calm.{calm-after}
 use mathlib.Core.Path.{ap, _∙_}
 use Rattle.pen.specs.Pen.{ended}
 use Rattle.document.proofs.Laws.{one-whole}
@@ -14,7 +13,7 @@ put-stop-requires : tie.Need-put-stop-requires
 put-stop-requires c κs = search needs
 
 finish-requires : tie.Need-finish-requires
-finish-requires c κs = calm-after (c .before .before .before .before .before .before .before .before .before .before .before .before .pre) _ _ _ (one-whole _ _ _ _ _ _ (c .before .before .before .before .before .before .before .put-documents .ensures) (c .before .before .before .put-stop .ensures)) .ready .fit .under
+finish-requires c κs = search needs
 
 same-length : tie.Need-same-length
 same-length c = search needs

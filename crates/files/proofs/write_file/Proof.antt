@@ -21,12 +21,12 @@ part-write-one-end : tie.Need-part-write-one-end
 part-write-one-end c = search needs
 
 write-one-requires : tie.Need-write-one-requires
-write-one-requires c κs = file-calm (c .before .before .before .before .before .before .before .args .deck .now) (c .before .before .before .before .before .before .before .args .pool .now) (c .before .before .before .before .before .before .before .args .out .now) (c .before .before .before .before .before .before .before .args .start) (c .before .before .before .before .before .before .before .args .f .at) _ _ (c .before .before .before .plain .ensures) (c .before .before .fresh-writer .ensures) ((c .before .before .before .before .before .before .before .pre) .0) ((c .before .before .before .before .before .before .before .pre) .1) ((c .before .before .before .before .before .before .before .pre) .2) ((c .before .before .before .before .before .before .before .pre) .4) (λ k. omega (arith, c .before .before .before .before .slice-known .given k))
+write-one-requires c κs = file-calm (c .before .before .before .before .before .before .before .args .deck .now) (c .before .before .before .before .before .before .before .args .pool .now) (c .before .before .before .before .before .before .before .args .out .now) (c .before .before .before .before .before .before .before .args .start) (c .before .before .before .before .before .before .before .args .f .at) _ _ (c .before .before .before .plain .ensures) (c .before .before .fresh-writer .ensures) ((c .before .before .before .before .before .before .before .pre) .0) ((c .before .before .before .before .before .before .before .pre) .1) ((c .before .before .before .before .before .before .before .pre) .2) ((c .before .before .before .before .before .before .before .pre) .4)
 
 add-t15 : tie.Need-add-t15
 add-t15 c =
-    let b = file-calm (c .before .before .before .before .before .before .before .before .before .before .before .args .deck .now) (c .before .before .before .before .before .before .before .before .before .before .before .args .pool .now) (c .before .before .before .before .before .before .before .before .before .before .before .args .out .now) (c .before .before .before .before .before .before .before .before .before .before .before .args .start) (c .before .before .before .before .before .before .before .before .before .before .before .args .f .at) _ _ (c .before .before .before .before .before .before .before .plain .ensures) (c .before .before .before .before .before .before .fresh-writer .ensures) ((c .before .before .before .before .before .before .before .before .before .before .before .pre) .0) ((c .before .before .before .before .before .before .before .before .before .before .before .pre) .1) ((c .before .before .before .before .before .before .before .before .before .before .before .pre) .2) ((c .before .before .before .before .before .before .before .before .before .before .before .pre) .4) (λ k. omega (arith, c .before .before .before .before .before .before .before .before .slice-known .given k)) in
-    let n = file-len (c .before .before .before .before .before .before .before .before .before .before .before .args .out .now) (c .before .before .before .before .before .before .before .before .before .before .before .args .start) _ _ _ b (c .before .before .before .write-one .ensures) in
+    let b = file-calm (c .before .before .before .before .before .before .before .before .before .before .before .args .deck .now) (c .before .before .before .before .before .before .before .before .before .before .before .args .pool .now) (c .before .before .before .before .before .before .before .before .before .before .before .args .out .now) (c .before .before .before .before .before .before .before .before .before .before .before .args .start) (c .before .before .before .before .before .before .before .before .before .before .before .args .f .at) _ _ (c .before .before .before .before .before .before .before .plain .ensures) (c .before .before .before .before .before .before .fresh-writer .ensures) ((c .before .before .before .before .before .before .before .before .before .before .before .pre) .0) ((c .before .before .before .before .before .before .before .before .before .before .before .pre) .1) ((c .before .before .before .before .before .before .before .before .before .before .before .pre) .2) ((c .before .before .before .before .before .before .before .before .before .before .before .pre) .4) in
+    let n = file-len (c .before .before .before .before .before .before .fresh-writer .result) (c .before .before .before .before .before .before .before .before .before .before .before .args .out .now) (c .before .before .before .before .before .before .before .before .before .before .before .args .start) _ _ _ b (c .before .before .before .write-one .ensures) in
     let o = (c .before .before .before .before .before .before .before .before .before .before .before .pre) .2 in
     let r = (c .before .before .before .before .before .before .before .before .before .before .before .pre) .3 in
     omega (arith, n, o, r)

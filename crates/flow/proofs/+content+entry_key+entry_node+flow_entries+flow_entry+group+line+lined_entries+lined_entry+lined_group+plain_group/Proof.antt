@@ -35,13 +35,13 @@ use Rattle.flow.proofs.+content+entry_key+entry_node+flow_entries+flow_
 use Rattle.flow.proofs.+content+entry_key+entry_node+flow_entries+flow_entry+group+line+lined_entries+lined_entry+lined_group+plain_group.{statement}
 use Rattle.flow.proofs.+content+entry_key+entry_node+flow_entries+flow_entry+group+line+lined_entries+lined_entry+lined_group+plain_group.Tie.{close}
 use Rattle.flow.proofs.+content+entry_key+entry_node+flow_entries+flow_entry+group+line+lined_entries+lined_entry+lined_group+plain_group.Proof.Base.{μ-content, μ-entry-key, μ-flow-entries, μ-flow-entry, μ-group, μ-entry-node, μ-line, μ-lined-entries, μ-lined-entry, μ-lined-group, μ-plain-group, content-at, entry-key-at, flow-entries-at, flow-entry-at, group-at, entry-node-at, line-at, lined-entries-at, lined-entry-at, lined-entry-below, lined-group-at, plain-group-at, content-claims, entry-key-claims, flow-entries-claims, flow-entry-claims, group-claims, entry-node-claims, line-claims, lined-entry-claims, lined-group-claims, plain-group-claims}
-use Rattle.flow.proofs.+content+entry_key+entry_node+flow_entries+flow_entry+group+line+lined_entries+lined_entry+lined_group+plain_group.Proof.Content.{content-enum-told, content-put-null-requires, content-enum-known-body, content-is-marked-requires, content-put-words-requires, content-enum-known-body-2, content-put-alias-requires, content-enum-known-body-3, content-add-with-flow, content-with-flow-requires, content-group-requires, content-back-requires, content-enum-known-body-4, content-add-with-flow-2, content-with-flow-requires-2, content-group-requires-2, content-back-requires-2, content-same-length, content-returns, content-same-length-2, content-returns-2, content-same-length-3, content-returns-3, content-same-length-4, content-returns-4, content-same-length-5, content-returns-5}
+use Rattle.flow.proofs.+content+entry_key+entry_node+flow_entries+flow_entry+group+line+lined_entries+lined_entry+lined_group+plain_group.Proof.Content.{content-enum-told, content-put-null-requires, content-enum-known-body, content-is-marked-requires, content-put-words-requires, content-enum-known-body-2, content-put-alias-requires, content-enum-known-body-3, content-flow-requires, content-add-with-flow, content-with-flow-requires, content-group-requires, content-back-requires, content-enum-known-body-4, content-flow-requires-2, content-add-with-flow-2, content-with-flow-requires-2, content-group-requires-2, content-back-requires-2, content-same-length, content-returns, content-same-length-2, content-returns-2, content-same-length-3, content-returns-3, content-same-length-4, content-returns-4, content-same-length-5, content-returns-5}
 use Rattle.flow.proofs.+content+entry_key+entry_node+flow_entries+flow_entry+group+line+lined_entries+lined_entry+lined_group+plain_group.Proof.EntryKey.{entry-key-entry-node-requires, entry-key-byte-requires, entry-key-same-length, entry-key-returns, entry-key-returns-2}
 use Rattle.flow.proofs.+content+entry_key+entry_node+flow_entries+flow_entry+group+line+lined_entries+lined_entry+lined_group+plain_group.Proof.FlowEntries.{flow-entries-Inv-loop, flow-entries-μ-loop, flow-entries-loop-holds, flow-entries-put-between-requires, flow-entries-flow-entry-requires, flow-entries-sub-left, flow-entries-loop-less, flow-entries-loop-again, flow-entries-same-length, flow-entries-returns}
 use Rattle.flow.proofs.+content+entry_key+entry_node+flow_entries+flow_entry+group+line+lined_entries+lined_entry+lined_group+plain_group.Proof.FlowEntry.{flow-entry-entry-node-requires, flow-entry-byte-requires, flow-entry-entry-node-requires-2, flow-entry-same-length, flow-entry-returns, flow-entry-entry-node-requires-3, flow-entry-same-length-2, flow-entry-returns-2}
 use Rattle.flow.proofs.+content+entry_key+entry_node+flow_entries+flow_entry+group+line+lined_entries+lined_entry+lined_group+plain_group.Proof.Group.{group-step-of-requires, group-add-j, group-is-quiet-requires, group-is-lined-requires, group-lined-group-requires, group-same-length, group-returns, group-plain-group-requires, group-same-length-2, group-returns-2}
 use Rattle.flow.proofs.+content+entry_key+entry_node+flow_entries+flow_entry+group+line+lined_entries+lined_entry+lined_group+plain_group.Proof.EntryNode.{entry-node-spot-at-requires, entry-node-line-requires, entry-node-same-length, entry-node-returns}
-use Rattle.flow.proofs.+content+entry_key+entry_node+flow_entries+flow_entry+group+line+lined_entries+lined_entry+lined_group+plain_group.Proof.Line.{line-put-dress-requires, line-key-in-requires, line-with-key-requires, line-content-requires, line-with-key-requires-2, line-put-ending-requires, line-same-length, line-returns}
+use Rattle.flow.proofs.+content+entry_key+entry_node+flow_entries+flow_entry+group+line+lined_entries+lined_entry+lined_group+plain_group.Proof.Line.{line-key-requires, line-put-dress-requires, line-key-in-requires, line-with-key-requires, line-content-requires, line-with-key-requires-2, line-put-ending-requires, line-same-length, line-returns}
 use Rattle.flow.proofs.+content+entry_key+entry_node+flow_entries+flow_entry+group+line+lined_entries+lined_entry+lined_group+plain_group.Proof.LinedEntries.{lined-entries-Inv-loop, lined-entries-μ-loop, lined-entries-loop-holds, lined-entries-lined-entry-requires, lined-entries-sub-left, lined-entries-loop-less, lined-entries-loop-again, lined-entries-same-length, lined-entries-returns}
 use Rattle.flow.proofs.+content+entry_key+entry_node+flow_entries+flow_entry+group+line+lined_entries+lined_entry+lined_group+plain_group.Proof.LinedEntry.{lined-entry-last-of-requires, lined-entry-spot-at-requires, lined-entry-put-lined-before-requires, lined-entry-entry-key-requires, lined-entry-line-requires, lined-entry-put-lined-after-requires, lined-entry-same-length, lined-entry-returns}
 use Rattle.flow.proofs.+content+entry_key+entry_node+flow_entries+flow_entry+group+line+lined_entries+lined_entry+lined_group+plain_group.Proof.LinedGroup.{lined-group-opening-of-requires, lined-group-byte-requires, lined-group-byte-requires-2, lined-group-lined-entries-requires, lined-group-spaces-requires, lined-group-closing-of-requires, lined-group-byte-requires-3, lined-group-same-length, lined-group-returns}
@@ -73,11 +73,13 @@ pub +content+entry-key+entry-node+flow-entries+flow-entry+group+line+lined-entri
     (content-enum-known-body-2 t)
     (content-put-alias-requires t)
     (content-enum-known-body-3 t)
+    (content-flow-requires t)
     (content-add-with-flow t)
     (content-with-flow-requires t)
     (content-group-requires t)
     (content-back-requires t)
     (content-enum-known-body-4 t)
+    (content-flow-requires-2 t)
     (content-add-with-flow-2 t)
     (content-with-flow-requires-2 t)
     (content-group-requires-2 t)
@@ -147,6 +149,7 @@ pub +content+entry-key+entry-node+flow-entries+flow-entry+group+line+lined-entri
     (λ t. line-lts.spec (line-claims t)
     (line-at t)
     line.Post
+    (line-key-requires t)
     (line-put-dress-requires t)
     (line-key-in-requires t)
     (line-with-key-requires t)

@@ -9,6 +9,9 @@ returns : tie.Need-returns
 unfolding ink nothing puts
 returns c = rw (c .if1 .taken)
 
+key-requires : tie.Need-key-requires
+key-requires c κs = search needs
+
 put-separator-requires : tie.Need-put-separator-requires
 put-separator-requires c κs = search needs
 
@@ -17,7 +20,7 @@ same-length c = search needs
 
 returns-2 : tie.Need-returns-2
 unfolding ink on
-returns-2 c = rw (c .before .before .before .before .before .if1 .left) (c .before .before .put-separator .ensures)
+returns-2 c = rw (c .before .before .before .before .before .if1 .left) (rw (c .before .before .before .before .key .ensures) at (c .before .before .put-separator .ensures))
 
 pub put-between-spec : {M : Type 1} → statement M
-put-between-spec = tie.close (tie.spec returns put-separator-requires same-length returns-2)
+put-between-spec = tie.close (tie.spec returns key-requires put-separator-requires same-length returns-2)

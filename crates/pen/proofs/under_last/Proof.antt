@@ -11,17 +11,14 @@ use Rattle.pen.proofs.under_last.Tie as tie
 has-room-requires : tie.Need-has-room-requires
 has-room-requires c κs = search needs
 
-add-wide : tie.Need-add-wide
-add-wide c = let z : c .before .before .before .args .len + c .before .before .before .args .n ≤ length (c .before .before .before .args .out .now) = roomy _ _ _ (c .before .has-room .ensures) (c .if1 .taken) in search needs
+add-result : tie.Need-add-result
+add-result c = let z : c .before .before .before .args .len + c .before .before .before .args .n ≤ length (c .before .before .before .args .out .now) = roomy _ _ _ (c .before .has-room .ensures) (c .if1 .taken) in search needs
 
-sub-wide : tie.Need-sub-wide
-sub-wide c = search needs
+sub-result : tie.Need-sub-result
+sub-result c = search needs
 
-shared-slice-read-wide : tie.Need-shared-slice-read-wide
-shared-slice-read-wide c = let z : c .before .before .before .before .args .len + c .before .before .before .before .args .n ≤ length (c .before .before .before .before .args .out .now) = roomy _ _ _ (c .before .before .has-room .ensures) (c .before .if1 .taken) in search needs
-
-wide-requires : tie.Need-wide-requires
-wide-requires c κs = search needs
+shared-slice-read-result : tie.Need-shared-slice-read-result
+shared-slice-read-result c = let z : c .before .before .before .before .args .len + c .before .before .before .before .args .n ≤ length (c .before .before .before .before .args .out .now) = roomy _ _ _ (c .before .before .has-room .ensures) (c .before .if1 .taken) in search needs
 
 returns : tie.Need-returns
 returns c = search needs
@@ -34,9 +31,8 @@ under-last-spec =
     tie.close
     (tie.spec
     has-room-requires
-    add-wide
-    sub-wide
-    shared-slice-read-wide
-    wide-requires
+    add-result
+    sub-result
+    shared-slice-read-result
     returns
     returns-2)

@@ -52,11 +52,13 @@ use Rattle.joints.proofs.put_dress.Reads as put-dress-reads
 use Rattle.joints.proofs.put_ending.Reads as put-ending-reads
 use Rattle.joints.proofs.put_lined_after.Reads as put-lined-after-reads
 use Rattle.joints.proofs.put_lined_before.Reads as put-lined-before-reads
-use Rattle.joints.proofs.with_flow.Reads as with-flow-reads
-use Rattle.joints.proofs.with_key.Reads as with-key-reads
 use Rattle.deck.proofs.is_marked.Reads as is-marked-reads
 use Rattle.pen.proofs.Writer.byte.Reads as byte-reads
+use Rattle.pen.proofs.Writer.flow.Reads as flow-reads
+use Rattle.pen.proofs.Writer.key.Reads as key-reads
 use Rattle.pen.proofs.Writer.spaces.Reads as spaces-reads
+use Rattle.pen.proofs.Writer.with_flow.Reads as with-flow-reads
+use Rattle.pen.proofs.Writer.with_key.Reads as with-key-reads
 use Rattle.spot.proofs.spot_at.Reads as spot-at-reads
 
 abbrev pub μ-content : Measures 3 content-kinds.ps ℕ
@@ -189,6 +191,8 @@ content-claims t = (
   put-words-reads.Learnt,
   put-alias-reads.Asked,
   put-alias-reads.Learnt,
+  flow-reads.Asked,
+  flow-reads.Learnt,
   with-flow-reads.Asked,
   with-flow-reads.Learnt,
   group-below t,
@@ -245,6 +249,8 @@ entry-node-claims t = (
 
 abbrev pub line-claims : ℕ → line-lts.Claims
 line-claims t = (
+  key-reads.Asked,
+  key-reads.Learnt,
   put-dress-reads.Asked,
   put-dress-reads.Learnt,
   key-in-reads.Asked,

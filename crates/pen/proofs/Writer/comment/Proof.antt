@@ -3,7 +3,7 @@ use Prim.Native.Nat.{_+_}
 use borrow.Author.Tests.{eq-eqb, ne-eqb}
 use Rattle.definition.specs.Base.{spaces}
 use Rattle.definition.specs.Pen.{hashed, inlineText}
-use Rattle.pen.specs.Pen.{Pen, pen, and-then, noted, withInline}
+use Rattle.pen.specs.Pen.{Pen, page, and-then, noted, withInline}
 use borrow.Author.Needs.{needs}
 use Rattle.pen.proofs.Writer.comment.Statement.{statement}
 use Rattle.pen.proofs.Writer.comment.Tie as tie
@@ -31,7 +31,7 @@ returns-2 : tie.Need-returns-2
 unfolding noted inlineText withInline
 returns-2 c =
     rw (ne-eqb _ _ (c .before .before .before .before .before .before .before .before .before .if1 .left))
-    (ap (λ (p : Pen). pen (withInline (c .before .before .before .before .before .before .before .before .before .before .before .before .before .args .place + 1) (p .w)) (p .out)) (and-then _ _ _ (rw (c .before .before .before .before .before .before .before .at-least-one .ensures) at (c .before .before .before .before .before .before .spaces .ensures)) (c .before .before .hashed .ensures)))
+    (ap (λ (p : Pen). page (withInline (c .before .before .before .before .before .before .before .before .before .before .before .before .before .args .place + 1) (p .w)) (p .out)) (and-then _ _ _ (rw (c .before .before .before .before .before .before .before .at-least-one .ensures) at (c .before .before .before .before .before .before .spaces .ensures)) (c .before .before .hashed .ensures)))
 
 pub comment-spec : {M : Type 1} → statement M
 comment-spec =

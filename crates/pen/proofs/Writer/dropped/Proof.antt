@@ -1,7 +1,4 @@
 use lib.Seq.{set-out}
-use native.Mathlib.Omega.{arith}
-use mathlib.Core.Path.{_≡_}
-use Prim.Native.Nat.{_%_}
 use Rattle.pen.specs.Pen.{unput}
 use borrow.Author.Needs.{needs}
 use Rattle.pen.proofs.Writer.dropped.Statement.{statement}
@@ -21,7 +18,7 @@ same-length c = search needs
 
 returns : tie.Need-returns
 unfolding unput
-returns c = let e : c .before .before .before .args .self .under % 256 ≡ c .before .before .before .args .self .under = omega (arith, c .before .before .before .pre .1) in rw e
+returns c = search needs
 
 returns-2 : tie.Need-returns-2
 unfolding unput

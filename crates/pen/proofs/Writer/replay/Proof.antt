@@ -1,7 +1,7 @@
 use mathlib.Core.Path.{ap}
 use Prim.Native.Nat.{_+_, _≤_, _^_}
 use native.Mathlib.Omega.{arith}
-use Rattle.pen.specs.Pen.{Pen, pen, rawed, withRaw}
+use Rattle.pen.specs.Pen.{Pen, page, rawed, withRaw}
 use Rattle.pen.proofs.Laws.{puts-count}
 use borrow.Author.Needs.{needs}
 use Rattle.pen.proofs.Writer.replay.Statement.{statement}
@@ -31,7 +31,7 @@ same-length-2 c = search needs
 
 returns-2 : tie.Need-returns-2
 unfolding rawed withRaw
-returns-2 c = rw (← (c .before .before .ends-closed .ensures), c .before .if1 .left) (ap (λ (p : Pen). pen (withRaw (p .w .len + 1) (p .w)) (p .out)) (c .before .before .before .before .before .text .ensures))
+returns-2 c = rw (← (c .before .before .ends-closed .ensures), c .before .if1 .left) (ap (λ (p : Pen). page (withRaw (p .w .len + 1) (p .w)) (p .out)) (c .before .before .before .before .before .text .ensures))
 
 pub replay-spec : {M : Type 1} → statement M
 replay-spec =
