@@ -44,8 +44,14 @@ take-again zero n b h = refl
 take-again (suc k) zero b h = absurd (omega (arith, h))
 take-again (suc k) (suc n) b h = ap (λ (l : Bytes). b ∷ l) (take-again k n b (omega (arith, h)))
 
-pub fill-part : (b n : ℕ) (l : Bytes) (i k : ℕ) → i + k ≡ length l → k ≤ n → sets l i (replicate k b) ≡ sets l i (replicate n b)
-fill-part b n l i k e h = ap (sets l i) (sym (take-again k n b h)) ∙ sets-part (replicate n b) l i k e
+pub fill-part : (b n : ℕ) (l : Bytes) (i : ℕ) → length l < i + n → sets l i (replicate (length l - i) b) ≡ sets l i (replicate n b)
+fill-part b n l i h = go (leb i (length l)) refl
+  where
+    go : (d : Bool) → leb i (length l) ≡ d → sets l i (replicate (length l - i) b) ≡ sets l i (replicate n b)
+    go true e =
+        let k = leb-true i (length l) e in
+        ap (sets l i) (sym (take-again (length l - i) n b (omega (arith, h, k)))) ∙ sets-part (replicate n b) l i (length l - i) (omega (arith, k))
+    go false e = let k = leb-false i (length l) e in sets-out l i (replicate (length l - i) b) (omega (arith, k)) ∙ sym (sets-out l i (replicate n b) (omega (arith, k)))
 
 -- ---- storing, byte by byte
 

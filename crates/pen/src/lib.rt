@@ -110,17 +110,6 @@ fn end_of(len: usize, n: usize, most: usize) -> usize
     len + n
 }
 
-// What the last of `n` bytes from `len` on is put over: 0 past the room.
-fn under_last(out: &[u8], len: usize, n: usize) -> u8
-    requires { ⌜ 0 < n ⌝ }
-    ensures { λ r. ⌜ r ≡ getD (now (out .entry)) (len + n - 1) 0 ⌝ }
-{
-    if has_room(len, n, out.len()) {
-        return out[len + n - 1];
-    }
-    0
-}
-
 // Copies a text to a place.
 fn copy_to(out: &mut [u8], at: usize, t: &[u8])
     requires { ⌜ (at + length (now t) ≤ length (now out)) × (length (now out) < 2 ^ 62) ⌝ }
@@ -145,30 +134,22 @@ fn fill(out: &mut [u8], at: usize, b: u8, n: usize)
     }
 }
 
-// Copies a text to a place, as far as there is room.
-fn store(out: &mut [u8], at: usize, t: &[u8])
-    requires { ⌜ length (now out) < 2 ^ 62 ⌝ }
+// Copies of a text what has room, where not all of it has.
+fn copy_part(out: &mut [u8], at: usize, t: &[u8])
+    requires { ⌜ (length (now out) < at + length (now t)) × (length (now out) < 2 ^ 62) ⌝ }
     ensures { λ r. ⌜ now (out .exit) ≡ sets (now (out .entry)) at (now (t .entry)) ⌝ }
 {
-    if has_room(at, t.len(), out.len()) {
-        copy_to(out, at, t);
-        return;
-    }
     if at < out.len() {
         let k = out.len() - at;
         copy_to(out, at, &t[..k]);
     }
 }
 
-// Stores one byte again and again from a place, as far as there is room.
-fn store_again(out: &mut [u8], at: usize, b: u8, n: usize)
+// Stores one byte again and again from a place to the end.
+fn fill_up(out: &mut [u8], at: usize, b: u8)
     requires { ⌜ length (now out) < 2 ^ 62 ⌝ }
-    ensures { λ r. ⌜ now (out .exit) ≡ sets (now (out .entry)) at (replicate n b) ⌝ }
+    ensures { λ r. ⌜ now (out .exit) ≡ sets (now (out .entry)) at (replicate (length (now (out .entry)) - at) b) ⌝ }
 {
-    if has_room(at, n, out.len()) {
-        fill(out, at, b, n);
-        return;
-    }
     if at < out.len() {
         let k = out.len() - at;
         fill(out, at, b, k);
@@ -260,10 +241,15 @@ impl Writer {
         let len = self.len;
         let most = out.len() + 2;
         self.column = column_over(self.mode / 2 % 2, self.column, most, t);
-        let under = under_last(out, len, n);
-        self.edge = edge_of(t[n - 1], under);
+        if has_room(len, n, out.len()) {
+            self.edge = edge_of(t[n - 1], out[len + n - 1]);
+            self.len = len + n;
+            copy_to(out, len, t);
+            return self;
+        }
+        self.edge = edge_of(t[n - 1], 0);
         self.len = end_of(len, n, most);
-        store(out, len, t);
+        copy_part(out, len, t);
         self
     }
 
@@ -278,10 +264,15 @@ impl Writer {
         let len = self.len;
         let most = out.len() + 2;
         self.column = column_again(self.mode / 2 % 2, self.column, most, b, n);
-        let under = under_last(out, len, n);
-        self.edge = edge_of(b, under);
+        if has_room(len, n, out.len()) {
+            self.edge = edge_of(b, out[len + n - 1]);
+            self.len = len + n;
+            fill(out, len, b, n);
+            return self;
+        }
+        self.edge = edge_of(b, 0);
         self.len = end_of(len, n, most);
-        store_again(out, len, b, n);
+        fill_up(out, len, b);
         self
     }
 

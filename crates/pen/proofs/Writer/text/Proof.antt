@@ -1,8 +1,10 @@
 -- `pen::Writer::text` meets its contract.
-use mathlib.Core.Path.{_∙_}
+use mathlib.Core.Path.{sym, _∙_}
 use native.Mathlib.Omega.{arith}
+use Prim.Native.Nat.{_+_, _<_, _≤_}
+use lib.ListN.{length, List·getD-eq-default}
 use Rattle.pen.specs.Pen.{fields}
-use Rattle.pen.proofs.Texts.{no-text, text-written}
+use Rattle.pen.proofs.Texts.{roomy, roomless, no-text, text-written}
 use borrow.Author.Needs.{needs}
 use Rattle.pen.proofs.Writer.text.Statement.{statement}
 use Rattle.pen.proofs.Writer.text.Tie as tie
@@ -16,8 +18,8 @@ add-most c = search needs
 column-over-requires : tie.Need-column-over-requires
 column-over-requires c κs = search needs
 
-under-last-requires : tie.Need-under-last-requires
-under-last-requires c κs = search needs
+has-room-requires : tie.Need-has-room-requires
+has-room-requires c κs = search needs
 
 sub-edge-of : tie.Need-sub-edge-of
 sub-edge-of c = search needs
@@ -25,20 +27,50 @@ sub-edge-of c = search needs
 shared-slice-read-edge-of : tie.Need-shared-slice-read-edge-of
 shared-slice-read-edge-of c = search needs
 
+add-edge-of : tie.Need-add-edge-of
+add-edge-of c = let z : c .before .before .before .before .before .before .before .before .args .self .len + length (c .before .before .before .before .before .before .before .before .args .t .now) ≤ length (c .before .before .before .before .before .before .before .before .args .out .now) = roomy _ _ _ (c .before .before .has-room .ensures) (c .before .if2 .taken) in search needs
+
+sub-edge-of-2 : tie.Need-sub-edge-of-2
+sub-edge-of-2 c = search needs
+
+slice-read-edge-of : tie.Need-slice-read-edge-of
+slice-read-edge-of c = let z : c .before .before .before .before .before .before .before .before .before .args .self .len + length (c .before .before .before .before .before .before .before .before .before .args .t .now) ≤ length (c .before .before .before .before .before .before .before .before .before .args .out .now) = roomy _ _ _ (c .before .before .before .has-room .ensures) (c .before .before .if2 .taken) in search needs
+
 edge-of-requires : tie.Need-edge-of-requires
 edge-of-requires c κs = search needs
 
-end-of-requires : tie.Need-end-of-requires
-end-of-requires c κs = search needs
+add-self : tie.Need-add-self
+add-self c = let z : c .before .before .before .before .before .before .before .before .before .before .args .self .len + length (c .before .before .before .before .before .before .before .before .before .before .args .t .now) ≤ length (c .before .before .before .before .before .before .before .before .before .before .args .out .now) = roomy _ _ _ (c .before .before .before .before .has-room .ensures) (c .before .before .before .if2 .taken) in search needs
 
-store-requires : tie.Need-store-requires
-store-requires c κs = search needs
+copy-to-requires : tie.Need-copy-to-requires
+copy-to-requires c κs = let z : c .before .before .before .before .before .before .before .before .before .before .before .args .self .len + length (c .before .before .before .before .before .before .before .before .before .before .before .args .t .now) ≤ length (c .before .before .before .before .before .before .before .before .before .before .before .args .out .now) = roomy _ _ _ (c .before .before .before .before .before .has-room .ensures) (c .before .before .before .before .if2 .taken) in (z, c .before .before .before .before .before .before .before .before .before .before .before .pre)
 
 same-length : tie.Need-same-length
 same-length c = search needs
 
 returns-2 : tie.Need-returns-2
-returns-2 c = text-written (c .before .before .before .before .before .before .before .before .before .before .before .before .before .before .args .t .now) (fields (c .before .before .before .before .before .before .before .before .before .before .before .before .before .before .args .self)) (c .before .before .before .before .before .before .before .before .before .before .before .before .before .before .args .out .now) _ _ _ _ _ (let h = c .before .before .before .before .before .before .before .before .before .before .before .if1 .left in omega (arith, h)) (c .before .before .before .before .end-of .ensures) (c .before .before .before .before .before .edge-of .ensures .0) (c .before .before .before .before .before .edge-of .ensures .1 ∙ c .before .before .before .before .before .before .before .under-last .ensures) (c .before .before .before .before .before .before .before .before .before .column-over .ensures) (c .before .before .store .ensures)
+returns-2 c = let z : c .before .before .before .before .before .before .before .before .before .before .before .before .before .before .args .self .len + length (c .before .before .before .before .before .before .before .before .before .before .before .before .before .before .args .t .now) ≤ length (c .before .before .before .before .before .before .before .before .before .before .before .before .before .before .args .out .now) = roomy _ _ _ (c .before .before .before .before .before .before .before .before .has-room .ensures) (c .before .before .before .before .before .before .before .if2 .taken) in text-written (c .before .before .before .before .before .before .before .before .before .before .before .before .before .before .args .t .now) (fields (c .before .before .before .before .before .before .before .before .before .before .before .before .before .before .args .self)) (c .before .before .before .before .before .before .before .before .before .before .before .before .before .before .args .out .now) _ _ _ _ _ (let h = c .before .before .before .before .before .before .before .before .before .before .before .if1 .left in omega (arith, h)) (omega (arith, z)) (c .before .before .before .before .edge-of .ensures .0) (c .before .before .before .before .edge-of .ensures .1) (c .before .before .before .before .before .before .before .before .before .column-over .ensures) (c .before .before .copy-to .ensures)
+
+sub-edge-of-3 : tie.Need-sub-edge-of-3
+sub-edge-of-3 c = search needs
+
+shared-slice-read-edge-of-2 : tie.Need-shared-slice-read-edge-of-2
+shared-slice-read-edge-of-2 c = search needs
+
+edge-of-requires-2 : tie.Need-edge-of-requires-2
+edge-of-requires-2 c κs = search needs
+
+end-of-requires : tie.Need-end-of-requires
+end-of-requires c κs = search needs
+
+copy-part-requires : tie.Need-copy-part-requires
+copy-part-requires c κs = let z : length (c .before .before .before .before .before .before .before .before .before .before .before .args .out .now) < c .before .before .before .before .before .before .before .before .before .before .before .args .self .len + length (c .before .before .before .before .before .before .before .before .before .before .before .args .t .now) = roomless _ _ _ (c .before .before .before .before .before .has-room .ensures) (c .before .before .before .before .if2 .left) in (z, c .before .before .before .before .before .before .before .before .before .before .before .pre)
+
+same-length-2 : tie.Need-same-length-2
+same-length-2 c = search needs
+
+returns-3 : tie.Need-returns-3
+returns-3 c = let z : length (c .before .before .before .before .before .before .before .before .before .before .before .before .before .before .args .out .now) < c .before .before .before .before .before .before .before .before .before .before .before .before .before .before .args .self .len + length (c .before .before .before .before .before .before .before .before .before .before .before .before .before .before .args .t .now) = roomless _ _ _ (c .before .before .before .before .before .before .before .before .has-room .ensures) (c .before .before .before .before .before .before .before .if2 .left) in text-written (c .before .before .before .before .before .before .before .before .before .before .before .before .before .before .args .t .now) (fields (c .before .before .before .before .before .before .before .before .before .before .before .before .before .before .args .self)) (c .before .before .before .before .before .before .before .before .before .before .before .before .before .before .args .out .now) _ _ _ _ _ (let h = c .before .before .before .before .before .before .before .before .before .before .before .if1 .left in omega (arith, h)) (c .before .before .before .before .end-of .ensures) (c .before .before .before .before .before .edge-of2 .ensures .0) (c .before .before .before .before .before .edge-of2 .ensures .1 ∙ sym (List·getD-eq-default (c .before .before .before .before .before .before .before .before .before .before .before .before .before .before .args .out .now) 0 (omega (arith, z)))) (c .before .before .before .before .before .before .before .before .before .column-over .ensures) (c .before .before .copy-part .ensures)
 
 pub text-spec : {M : Type 1} → statement M
 text-spec =
@@ -47,11 +79,21 @@ text-spec =
     returns
     add-most
     column-over-requires
-    under-last-requires
+    has-room-requires
     sub-edge-of
     shared-slice-read-edge-of
+    add-edge-of
+    sub-edge-of-2
+    slice-read-edge-of
     edge-of-requires
-    end-of-requires
-    store-requires
+    add-self
+    copy-to-requires
     same-length
-    returns-2)
+    returns-2
+    sub-edge-of-3
+    shared-slice-read-edge-of-2
+    edge-of-requires-2
+    end-of-requires
+    copy-part-requires
+    same-length-2
+    returns-3)
