@@ -14,9 +14,6 @@ use Rattle.definition.specs.Tree.{kept}
 use Rattle.definition.specs.Pen.{mark, space, sign, indent}
 use Rattle.definition.specs.Walk.{colon}
 use Rattle.definition.specs.declared.Cursor.{Cursor}
-use Rattle.definition.specs.declared.Group.{Group}
-use Rattle.definition.specs.declared.Text.{Text}
-use Rattle.definition.specs.declared.Words.{Words}
 use Rattle.node.specs.declared.Lead.{Lead}
 use Rattle.node.specs.Ends.{Ends}
 use Rattle.node.specs.Total.{keptOf}
@@ -27,7 +24,7 @@ use Rattle.comments.specs.Runs.{Short, repeated}
 use Rattle.spot.specs.declared.Body.{Body}
 use Rattle.spot.specs.declared.Body.the-variants as body
 use Rattle.spot.specs.declared.Spot.{Spot}
-use Rattle.spot.specs.Spot.{kindOf, spotAt, nodeIn, tree-value}
+use Rattle.spot.specs.Spot.{caseOf, kindOf, spotAt, nodeIn, tree-value}
 use Rattle.spot.specs.Good.{good-at}
 use Rattle.joints.specs.declared.Manner.{Manner}
 use Rattle.joints.specs.Line.{rankOf, keyBy}
@@ -56,29 +53,21 @@ out-of-key m n k e t = mark-is m k false (le-ltb 2 (rankOf m) (rw e at t))
 
 -- ---- the colon
 
-one-colon : {P Q : Pen} → Q ≡ put1 P ':' → Draws (sign ':') P Q
-unfolding sign
-one-colon e = of-byte mark ':' e
+pub colon-alias : (b : Body) (n : ℕ) (P Q R : Pen) → n ≡ caseOf b → n ≡ 2 → Q ≡ put1 P SP → R ≡ put1 Q ':' → Colon b P R
+unfolding colon kindOf sign caseOf
+colon-alias body.Null n P Q R e h d f = absurd (omega (arith, e, h))
+colon-alias (body.Scalar w) n P Q R e h d f = absurd (omega (arith, e, h))
+colon-alias (body.Alias t) n P Q R e h d f = record { drawn = λ deck pool c. both _ _ (of-byte mark SP d) (of-byte mark ':' f) }
+colon-alias (body.Sequence g) n P Q R e h d f = absurd (omega (arith, e, h))
+colon-alias (body.Mapping g) n P Q R e h d f = absurd (omega (arith, e, h))
 
-pub colon-null : (b : Body) (P Q : Pen) → b ≡ body.Null → Q ≡ put1 P ':' → Colon b P Q
-unfolding colon kindOf
-colon-null b P Q e d = record { drawn = λ deck pool c. rw e (one-colon d) }
-
-pub colon-scalar : (b : Body) (w : Words) (P Q : Pen) → b ≡ body.Scalar w → Q ≡ put1 P ':' → Colon b P Q
-unfolding colon kindOf
-colon-scalar b w P Q e d = record { drawn = λ deck pool c. rw e (one-colon d) }
-
-pub colon-alias : (b : Body) (t : Text) (P Q : Pen) → b ≡ body.Alias t → Q ≡ puts (SP ∷ ':' ∷ []) P → Colon b P Q
-unfolding colon kindOf sign puts
-colon-alias b t P Q e d = record { drawn = λ deck pool c. rw e (both _ _ (of-byte mark SP refl) (of-byte mark ':' d)) }
-
-pub colon-sequence : (b : Body) (g : Group) (P Q : Pen) → b ≡ body.Sequence g → Q ≡ put1 P ':' → Colon b P Q
-unfolding colon kindOf
-colon-sequence b g P Q e d = record { drawn = λ deck pool c. rw e (one-colon d) }
-
-pub colon-mapping : (b : Body) (g : Group) (P Q : Pen) → b ≡ body.Mapping g → Q ≡ put1 P ':' → Colon b P Q
-unfolding colon kindOf
-colon-mapping b g P Q e d = record { drawn = λ deck pool c. rw e (one-colon d) }
+pub colon-other : (b : Body) (n : ℕ) (P Q : Pen) → n ≡ caseOf b → (n ≡ 2 → ⊥) → Q ≡ put1 P ':' → Colon b P Q
+unfolding colon kindOf sign caseOf
+colon-other body.Null n P Q e h d = record { drawn = λ deck pool c. of-byte mark ':' d }
+colon-other (body.Scalar w) n P Q e h d = record { drawn = λ deck pool c. of-byte mark ':' d }
+colon-other (body.Alias t) n P Q e h d = absurd (h e)
+colon-other (body.Sequence g) n P Q e h d = record { drawn = λ deck pool c. of-byte mark ':' d }
+colon-other (body.Mapping g) n P Q e h d = record { drawn = λ deck pool c. of-byte mark ':' d }
 
 -- ---- head comments
 

@@ -37,18 +37,16 @@ pub fn put_between(w: Writer, out: &mut [u8], settings: Settings, first: bool, i
     scalar::put_separator(w, out, settings, key, i)
 }
 
-// `end_inline_key`
+// `end_inline_key`: an alias has a space before its colon.
 fn put_colon(w: Writer, out: &mut [u8], body: Body) -> Writer
     requires { ⌜ length (now out) < 2 ^ 62 ⌝ }
     ensures { λ r. ⌜ Colon body (pen w (now (out .entry))) (pen r (now (out .exit))) ⌝ }
 {
-    match body {
-        Body::Null => w.byte(out, b':'),
-        Body::Scalar(_) => w.byte(out, b':'),
-        Body::Alias(_) => w.text(out, b" :"),
-        Body::Sequence(_) => w.byte(out, b':'),
-        Body::Mapping(_) => w.byte(out, b':'),
+    if spot::case_of(body) == 2 {
+        let w1 = w.byte(out, b' ');
+        return w1.byte(out, b':');
     }
+    w.byte(out, b':')
 }
 
 // How a node stands on its line: an entry of a flow collection; a value, to the end of the line; a value below its introducer, whose properties

@@ -27,6 +27,13 @@ beside (Hex a) = 0
 beside (Latin b) = 1
 beside (Wide c) = 2
 
+pub beside-few : (p : Piece) → beside p ≤ 2
+beside-few (Plain a) = omega arith
+beside-few (Pair a b) = omega arith
+beside-few (Hex a) = omega arith
+beside-few (Latin b) = omega arith
+beside-few (Wide c) = omega arith
+
 -- the letter of a short escape, 0 where there is none
 unfoldable pub letterOf : ℕ → ℕ
 letterOf a =
@@ -62,10 +69,3 @@ pub record Own (q : Quote) (stop a : ℕ) : Type 0 where
   pub itself : (b c : ℕ) → q .piece a b c ≡ a ∷ []
   pub alone : (b c : ℕ) → q .more a b c ≡ 0
   pub other : a ≡ stop → ⊥
-
-pub beside-few : (p : Piece) → beside p ≤ 2
-beside-few (Plain a) = omega arith
-beside-few (Pair a b) = omega arith
-beside-few (Hex a) = omega arith
-beside-few (Latin b) = omega arith
-beside-few (Wide c) = omega arith

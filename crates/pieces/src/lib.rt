@@ -215,6 +215,17 @@ pub fn put_piece(w: Writer, out: &mut [u8], p: Piece) -> Writer
     }
 }
 
+// A byte between single quotes.
+pub fn put_single(w: Writer, out: &mut [u8], a: u8) -> Writer
+    requires { ⌜ length (now out) < 2 ^ 62 ⌝ }
+    ensures { λ r. ⌜ pen r (now (out .exit)) ≡ puts (singlePiece a 0 0) (pen w (now (out .entry))) ⌝ }
+{
+    if a == b'\'' {
+        return put_pair(w, out, a, a);
+    }
+    w.byte(out, a)
+}
+
 // Whether the byte begins no escape and is not `stop`, so that it is written as it is. A byte that begins an escape only before certain
 // others counts as one that does.
 fn is_own(a: u8, stop: u8, single: bool) -> bool
@@ -266,15 +277,4 @@ pub fn quote_of(single: bool) -> u8
         return b'\'';
     }
     b'"'
-}
-
-// A byte between single quotes.
-pub fn put_single(w: Writer, out: &mut [u8], a: u8) -> Writer
-    requires { ⌜ length (now out) < 2 ^ 62 ⌝ }
-    ensures { λ r. ⌜ pen r (now (out .exit)) ≡ puts (singlePiece a 0 0) (pen w (now (out .entry))) ⌝ }
-{
-    if a == b'\'' {
-        return put_pair(w, out, a, a);
-    }
-    w.byte(out, a)
 }
