@@ -14,7 +14,7 @@ ghost use Rattle.pen.specs.Pen.{fields, pen, put1, puts, columnAfter, co
 // start. `edge`: the byte put last, 0 at the start, times 256, and what it was put over, 0 past the room. `inline`: one more than the place of the
 // node whose inline comment was written last, 0 at the start. `column`: the columns since the last line break, at most the room and two; kept only
 // where the mode says so. `mode`: how many flow collections are open, times 4; 2 where columns are kept; 1 inside an inline key.
-// Two numbers hold five, since a writer goes through memory at every call; in another order of these six the compiler copies more (docs/SPEED.md).
+// Two numbers hold five, since a writer goes through memory at every call (docs/DECISIONS.md).
 pub struct Writer {
     pub len: usize,
     pub raw: usize,
@@ -185,6 +185,7 @@ impl Writer {
         self.mode % 2
     }
 
+    // The same with another depth of flow collections, or another key mark.
     pub fn with_flow(mut self, n: usize) -> Self
         requires { ⌜ n < 2 ^ 60 ⌝ }
         ensures { λ r. ⌜ pen r [] ≡ withFlow n (pen self []) ⌝ }
