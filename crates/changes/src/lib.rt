@@ -4,7 +4,7 @@ use files::Walk;
 ghost use mathlib.Core.Path.{_≡_};
 ghost use Prim.Native.Nat.{_<_, _≤_};
 ghost use lib.ListN.{length, set};
-ghost use Rattle.changes.specs.Filled.{Filled, started, filled};
+ghost use Rattle.changes.specs.Filled.{started, filled};
 
 // Stores an entry at a place of a lent list.
 pub fn store_change(list: &mut [Change], at: usize, change: Change)

@@ -40,7 +40,7 @@ use Rattle.joints.specs.Line.{lineOf}
 use Rattle.joints.specs.Entries.{nodeAt, nextAt}
 use Rattle.flow.specs.Ready.{Emits, at-place}
 use Rattle.layout.specs.Calm.{Calm, calm-further}
-use Rattle.layout.specs.Emitting.{drawn-first, drawn-last, calm-line, line-value}
+use Rattle.layout.specs.Emitting.{drawn-first, calm-line, line-value}
 use Rattle.block.specs.Rows.{Footed}
 use Rattle.document.specs.Root.{calm-emits}
 use Rattle.document.specs.Pieces.{startIn, stopIn, plainIn, opened, frontIn, placedOf, documentsLeft, placedFrom, blockRoot, lineRoot, rootOf, front-is}

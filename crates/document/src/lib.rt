@@ -14,8 +14,7 @@ ghost use mathlib.Core.Bool.{true, not, _&&_};
 ghost use lib.ListN.{length};
 ghost use Rattle.definition.specs.Document.{dashes, dots, oneDocument, allDocuments};
 ghost use Rattle.node.specs.Total.{treesOf};
-ghost use Rattle.pen.specs.Pen.{fields, pen, ink, ended};
-ghost use Rattle.pen.specs.Shown.{keeps, begun};
+ghost use Rattle.pen.specs.Pen.{pen, ink, ended};
 ghost use Rattle.pen.specs.Draws.{Draws};
 ghost use Rattle.comments.specs.Runs.{Short};
 ghost use Rattle.spot.specs.Spot.{endIn, spotAt};
@@ -269,30 +268,6 @@ fn put_documents(
         left = documents_left(deck, here, left);
     }
     v
-}
-
-// The mode of a new writer: columns are kept where lines are folded.
-fn first_mode(width: usize) -> usize
-    ensures { λ r. ⌜ (r / 4 ≡ 0) × (r / 2 % 2 ≡ keeps width) × (r % 2 ≡ 0) ⌝ }
-{
-    if width == 0 {
-        return 0;
-    }
-    2
-}
-
-// A writer that has written nothing.
-pub fn fresh_writer(settings: Settings) -> Writer
-    ensures { λ r. ⌜ fields r ≡ begun settings ⌝ }
-{
-    Writer {
-        len: 0,
-        raw: 0,
-        edge: 0,
-        inline: 0,
-        column: 0,
-        mode: first_mode(settings.width),
-    }
 }
 
 // `emit_roundtrip_with` and `emit_roundtrip_dump`, of the tree at a cursor, to the end of its file; `passed`: its include is passed over.

@@ -1,6 +1,6 @@
 -- Laws of one step: when it makes nothing, and when a file.
 use mathlib.Core.Path.{_≡_, refl, sym}
-use Prim.Native.Nat.{ℕ, _-_, _≤_}
+use Prim.Native.Nat.{ℕ, _≤_}
 use mathlib.Core.Bool.{Bool, true, false, true≢false, _||_}
 use lib.ListN.{length}
 use lib.Dec.{eqb, ltb}

@@ -100,7 +100,7 @@ fn write_file(deck: &[u8], pool: &[u8], out: &mut [u8], start: usize, f: Found) 
     ensures { λ r. ⌜ (r ≡ fileStep (now (deck .entry)) (now (pool .entry)) (now (out .entry)) start f .made) × (now (out .exit) ≡ fileStep (now (deck .entry)) (now (pool .entry)) (now (out .entry)) start f .out) ⌝ }
 {
     let settings = plain();
-    let w = document::fresh_writer(settings);
+    let w = pen::fresh_writer(settings);
     let c = f.at;
     let v = document::write_one(w, deck, pool, &mut out[start..], settings, c, true);
     let length = v.len;

@@ -6,7 +6,7 @@ use mathlib.Core.Option.{Option}
 use Rattle.definition.specs.Base.{Bytes, if_then_else_}
 use Rattle.definition.specs.Ascii.{SP, COMMA, '[', ']', OPEN, CLOSE}
 use Rattle.definition.specs.Settings.{stepOf}
-use Rattle.definition.specs.Tree.{Inline, Kept, Brought, Node, node, sequence, mapping, item, pair, place, kept, brought}
+use Rattle.definition.specs.Tree.{Inline, Kept, Brought, Node, sequence, mapping, place, kept, brought}
 use Rattle.definition.specs.Pen.{Script, comment, comma, _>>_, nothing, newline, indent, sign}
 use Rattle.definition.specs.Walk.{heads, props, inlineKey, someItem, somePair, anyComments, anyCommentsIn, content, contentOf, flowItems, flowPairs, linedItems, linedPairs}
 use Rattle.definition.specs.declared.Cursor.{Cursor}

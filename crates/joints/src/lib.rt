@@ -1,4 +1,4 @@
-// What stands around a node on its line, between and around the entries of a flow collection, and the marks of a run: in flow, in a key.
+// What stands around a node on its line, and between and around the entries of a flow collection.
 use comments::Entries;
 use definition::Cursor;
 use definition::Settings;
@@ -9,7 +9,6 @@ use spot::Body;
 use spot::Spot;
 ghost use mathlib.Core.Path.{_≡_};
 ghost use Prim.Native.Nat.{_<_, _≤_, _^_};
-ghost use mathlib.Core.List.{[]};
 ghost use lib.ListN.{length};
 ghost use Rattle.definition.specs.Base.{if_then_else_};
 ghost use Rattle.definition.specs.Ascii.{COMMA};

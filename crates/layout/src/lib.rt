@@ -18,7 +18,7 @@ ghost use Rattle.pen.specs.Pen.{fields, pen};
 ghost use Rattle.pen.specs.Draws.{Draws};
 ghost use Rattle.comments.specs.Runs.{Short};
 ghost use Rattle.parts.specs.Lines.{before};
-ghost use Rattle.spot.specs.Spot.{keptIn, broughtIn, kindIn, nodeIn, endIn};
+ghost use Rattle.spot.specs.Spot.{keptIn, broughtIn, nodeIn, endIn};
 ghost use Rattle.spot.specs.Good.{Good, countIn};
 ghost use Rattle.joints.specs.Entries.{nextAt};
 ghost use Rattle.flow.specs.Ready.{Ready, Emits};

@@ -37,20 +37,6 @@ fn numbers_of(row: &[u8]) -> Numbers
     }
 }
 
-// A writer in an empty output that stands at a column.
-fn fresh(column: usize) -> Writer
-    ensures { λ r. ⌜ (r .column ≡ column) × (r .len ≡ 0) ⌝ }
-{
-    Writer {
-        len: 0,
-        raw: 0,
-        edge: 0,
-        inline: 0,
-        column,
-        mode: 2,
-    }
-}
-
 fn settings(width: usize, single_quotes: bool) -> Settings {
     Settings {
         null_style: NullStyle::Null,
@@ -61,6 +47,15 @@ fn settings(width: usize, single_quotes: bool) -> Settings {
         single_quotes,
         width,
     }
+}
+
+// A writer in an empty output that stands at a column.
+fn fresh(column: usize) -> Writer
+    ensures { λ r. ⌜ (r .column ≡ column) × (r .len ≡ 0) ⌝ }
+{
+    let mut w = pen::fresh_writer(settings(1, false));
+    w.column = column;
+    w
 }
 
 // A style by its number in a deck.

@@ -6,7 +6,7 @@ use mathlib.Core.Bool.{Bool, true, false, not, _&&_, _||_}
 use lib.ListN.{length}
 use lib.Dec.{eqb}
 use borrow.Author.Tests.{eqb-true, eqb-false}
-use Rattle.definition.specs.Base.{Bytes, if_then_else_}
+use Rattle.definition.specs.Base.{Bytes}
 use Rattle.definition.specs.Records.{recordAt}
 use Rattle.definition.specs.Tree.{Kept, Brought, Node, node, null}
 use Rattle.definition.specs.Walk.{hasComments}
@@ -16,10 +16,9 @@ use Rattle.definition.specs.declared.Record.{Record}
 use Rattle.definition.specs.declared.Record.the-variants as is
 use Rattle.deck.specs.Next.{nextOf}
 use Rattle.deck.specs.Kids.{kidsOf}
-use Rattle.node.specs.declared.Lead.{Lead}
 use Rattle.node.specs.declared.Passage.{Passage}
 use Rattle.node.specs.Head.{Head, noLead, addTo, headed, headFrom, headAt}
-use Rattle.node.specs.Comments.{commented, isComment, commentFrom, comment-from, added, comments-are}
+use Rattle.node.specs.Comments.{commented, isComment, comment-from, added, comments-are}
 use Rattle.node.specs.Total.{Got, keptOf, broughtOf, shape, shapeOf, treeAt}
 use Rattle.node.specs.Fuel.{nexts, head-at-onward, head-own, head-same, place-same, lead-onward, next-within, next-onward, next-kids, tree-is, tree-next}
 use Rattle.node.specs.Loud.{loud, loudKind, someOf, loudFrom, loud-items, loud-pairs}

@@ -1,14 +1,16 @@
 // The pen: a writer by value over a lent slice. It stores only inside the room, and counts two past it at most, so that whether the
 // finished bytes fit is known also where the last line break is dropped again.
+use definition::Settings;
 ghost use mathlib.Core.Path.{_≡_};
 ghost use Prim.Native.Nat.{_+_, _-_, _/_, _%_, _<_, _≤_, _^_, min, max};
 ghost use mathlib.Core.List.{[]};
-ghost use lib.ListN.{length, getD, replicate};
+ghost use lib.ListN.{length, replicate};
 ghost use lib.Seq.{sets};
 ghost use lib.Dec.{eqb, leb};
 ghost use Rattle.definition.specs.Base.{if_then_else_, spaces};
 ghost use Rattle.definition.specs.Pen.{hashed, endsClosed};
 ghost use Rattle.pen.specs.Pen.{fields, pen, put1, puts, columnAfter, columnOver, lineEnded, withFlow, withKey, noted, rawed, unput, ended};
+ghost use Rattle.pen.specs.Shown.{keeps, begun};
 
 // `len`: how many bytes were put, at most the room and two. `raw`: one more than where the last raw text ended without a line break, 0 at the
 // start. `edge`: the byte put last, 0 at the start, times 256, and what it was put over, 0 past the room. `inline`: one more than the place of the
@@ -153,6 +155,30 @@ fn fill_up(out: &mut [u8], at: usize, b: u8)
     if at < out.len() {
         let k = out.len() - at;
         fill(out, at, b, k);
+    }
+}
+
+// The mode of a new writer: columns are kept where lines are folded.
+fn first_mode(width: usize) -> usize
+    ensures { λ r. ⌜ (r / 4 ≡ 0) × (r / 2 % 2 ≡ keeps width) × (r % 2 ≡ 0) ⌝ }
+{
+    if width == 0 {
+        return 0;
+    }
+    2
+}
+
+// A writer that has written nothing.
+pub fn fresh_writer(settings: Settings) -> Writer
+    ensures { λ r. ⌜ fields r ≡ begun settings ⌝ }
+{
+    Writer {
+        len: 0,
+        raw: 0,
+        edge: 0,
+        inline: 0,
+        column: 0,
+        mode: first_mode(settings.width),
     }
 }
 

@@ -5,7 +5,7 @@ use Prim.Native.Nat.{ℕ, _<_, _≤_}
 use native.Mathlib.Omega.{arith}
 use mathlib.Core.Bool.{Bool, true, false}
 use mathlib.Core.List.{List, [], _∷_}
-use lib.ListN.{length, getD, replicate}
+use lib.ListN.{length, replicate}
 use Rattle.definition.specs.Base.{Bytes}
 use Rattle.definition.specs.Tree.{Node}
 use Rattle.definition.specs.Document.{oneDocument, allDocuments}

@@ -38,7 +38,7 @@ fn emit_one(deck: &[u8], pool: &[u8], out: &mut [u8], settings: Settings) -> Ans
     requires { ⌜ Settled settings × Small (lent (now deck) (now pool) (now out)) × Accepted (now deck) (now pool) 1 ⌝ }
     ensures { λ r. ⌜ outcomeOf r (now (out .exit)) [] ≡ written settings false (lent (now (deck .entry)) (now (pool .entry)) (now (out .entry))) ⌝ }
 {
-    let w = document::fresh_writer(settings);
+    let w = pen::fresh_writer(settings);
     let c = Cursor { at: 0 };
     let v = document::write_one(w, deck, pool, out, settings, c, false);
     settle(v, out)
@@ -54,7 +54,7 @@ fn emit_all(
     requires { ⌜ Settled settings × Small (lent (now deck) (now pool) (now out)) × Accepted (now deck) (now pool) documents ⌝ }
     ensures { λ r. ⌜ outcomeOf r (now (out .exit)) [] ≡ written settings true (lent (now (deck .entry)) (now (pool .entry)) (now (out .entry))) ⌝ }
 {
-    let w = document::fresh_writer(settings);
+    let w = pen::fresh_writer(settings);
     let v = document::write_all(w, deck, pool, out, settings);
     settle(v, out)
 }

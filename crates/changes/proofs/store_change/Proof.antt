@@ -1,6 +1,6 @@
 -- `changes::store_change` meets its contract: a walk of its MIR, by hand. The borrow is opened, element at is taken out of the row and stored to, and the borrow is closed at the list with the change there.
 -- Assumes nothing.
-use mathlib.Core.Path.{_≡_, refl, sym, ap, subst}
+use mathlib.Core.Path.{refl, sym, ap, subst}
 use Prim.Native.Nat.{ℕ, _*_, _<_, _^_}
 use native.Mathlib.Omega.{arith}
 use mathlib.Core.List.{[], _∷_, List}

@@ -45,7 +45,7 @@ use Rattle.changes.specs.Filled.{started, filled, Filled}
 use Rattle.changes.proofs.fill_list as fill
 use Rattle.plan.specs.Plan.{planOf, settledOf, clearedOf}
 use Rattle.plan.specs.Collected.{lentWith, fillOf, finished, collected, collected-is}
-use Rattle.definition.specs.Calls.{Outcome, outcome, collectChangedIncludeChanges}
+use Rattle.definition.specs.Calls.{outcome, collectChangedIncludeChanges}
 use Rattle.answers.specs.Answer.{outcomeOf}
 use Rattle.answers.specs.declared.Answer.{Answer}
 use Rattle.plan.specs.declared.Plan.{Plan}

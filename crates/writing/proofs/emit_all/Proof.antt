@@ -1,4 +1,3 @@
-use native.Mathlib.Omega.{arith}
 use Rattle.writing.proofs.Laws.{begin-at, all-answered}
 use borrow.Author.Needs.{needs}
 use Rattle.writing.proofs.emit_all.Statement.{statement}

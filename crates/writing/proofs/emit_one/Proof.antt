@@ -1,4 +1,3 @@
-use native.Mathlib.Omega.{arith}
 use Rattle.writing.proofs.Laws.{begin-at, one-answered}
 use borrow.Author.Needs.{needs}
 use Rattle.writing.proofs.emit_one.Statement.{statement}

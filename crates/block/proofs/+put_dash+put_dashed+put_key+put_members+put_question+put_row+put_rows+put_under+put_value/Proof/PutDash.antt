@@ -12,8 +12,6 @@ use borrow.Author.Needs.{needs}
 use Prim.Native.Nat.{ℕ}
 use Rattle.block.proofs.put_dash.Reads as put-dash
 use Rattle.block.proofs.+put_dash+put_dashed+put_key+put_members+put_question+put_row+put_rows+put_under+put_value.Lts-put_dash as put-dash-lts
-use Rattle.block.proofs.put_dashed.Reads as put-dashed
-use Rattle.block.proofs.put_value.Reads as put-value
 use Rattle.block.proofs.+put_dash+put_dashed+put_key+put_members+put_question+put_row+put_rows+put_under+put_value.Proof.Base.{put-dash-at, put-dash-claims}
 
 pub put-dash-byte-requires : (t : ℕ) → put-dash-lts.Need-byte-requires (put-dash-claims t) (put-dash-at t) put-dash.Post

@@ -8,8 +8,6 @@ use borrow.Author.Needs.{needs}
 use Prim.Native.Nat.{ℕ}
 use Rattle.block.proofs.put_dashed.Reads as put-dashed
 use Rattle.block.proofs.+put_dash+put_dashed+put_key+put_members+put_question+put_row+put_rows+put_under+put_value.Lts-put_dashed as put-dashed-lts
-use Rattle.block.proofs.put_members.Reads as put-members
-use Rattle.block.proofs.put_under.Reads as put-under
 use Rattle.block.proofs.+put_dash+put_dashed+put_key+put_members+put_question+put_row+put_rows+put_under+put_value.Proof.Base.{put-dashed-at, put-dashed-claims}
 
 pub put-dashed-on-dash-line-requires : (t : ℕ) → put-dashed-lts.Need-on-dash-line-requires (put-dashed-claims t) (put-dashed-at t) put-dashed.Post

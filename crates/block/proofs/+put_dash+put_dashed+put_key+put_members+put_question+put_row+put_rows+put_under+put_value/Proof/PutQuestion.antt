@@ -4,7 +4,6 @@ use Rattle.layout.specs.Calm.{calm-drawn, calm-inside, in-line}
 use Rattle.block.proofs.Laws.{deeper, key-below-block, key-below-line}
 use borrow.Author.Needs.{needs}
 use Prim.Native.Nat.{ℕ}
-use Rattle.block.proofs.put_members.Reads as put-members
 use Rattle.block.proofs.put_question.Reads as put-question
 use Rattle.block.proofs.+put_dash+put_dashed+put_key+put_members+put_question+put_row+put_rows+put_under+put_value.Lts-put_question as put-question-lts
 use Rattle.block.proofs.+put_dash+put_dashed+put_key+put_members+put_question+put_row+put_rows+put_under+put_value.Proof.Base.{put-question-at, put-question-claims}

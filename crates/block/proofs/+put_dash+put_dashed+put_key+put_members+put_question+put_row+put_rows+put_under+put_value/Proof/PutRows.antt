@@ -3,7 +3,6 @@ use Rattle.pen.specs.Pen.{pen}
 use Rattle.block.proofs.Laws.{Rowing, start, step, stop}
 use borrow.Author.Needs.{needs}
 use Prim.Native.Nat.{ℕ}
-use Rattle.block.proofs.put_row.Reads as put-row
 use Rattle.block.proofs.put_rows.Reads as put-rows
 use Rattle.block.proofs.+put_dash+put_dashed+put_key+put_members+put_question+put_row+put_rows+put_under+put_value.Lts-put_rows as put-rows-lts
 use Rattle.block.proofs.+put_dash+put_dashed+put_key+put_members+put_question+put_row+put_rows+put_under+put_value.Proof.Base.{put-rows-at, put-rows-claims}

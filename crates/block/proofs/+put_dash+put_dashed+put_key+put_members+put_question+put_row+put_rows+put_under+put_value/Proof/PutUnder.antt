@@ -3,7 +3,6 @@ use Rattle.layout.specs.Calm.{calm-drawn, calm-after}
 use Rattle.block.proofs.Laws.{under-whole}
 use borrow.Author.Needs.{needs}
 use Prim.Native.Nat.{ℕ}
-use Rattle.block.proofs.put_members.Reads as put-members
 use Rattle.block.proofs.put_under.Reads as put-under
 use Rattle.block.proofs.+put_dash+put_dashed+put_key+put_members+put_question+put_row+put_rows+put_under+put_value.Lts-put_under as put-under-lts
 use Rattle.block.proofs.+put_dash+put_dashed+put_key+put_members+put_question+put_row+put_rows+put_under+put_value.Proof.Base.{put-under-at, put-under-claims}

@@ -1,5 +1,5 @@
 use native.Mathlib.Omega.{arith}
-use mathlib.Core.Path.{refl, sym, _∙_}
+use mathlib.Core.Path.{refl}
 use Rattle.flow.specs.Ready.{after-drawn}
 use Rattle.layout.specs.Value.{value-bare, value-below, value-beside}
 use Rattle.layout.specs.Calm.{calm-inside, in-line}
@@ -8,7 +8,6 @@ use Rattle.spot.specs.Good.{spot-good, few-spot}
 use Rattle.flow.specs.Hushed.{untold-in}
 use borrow.Author.Needs.{needs}
 use Prim.Native.Nat.{ℕ}
-use Rattle.block.proofs.put_under.Reads as put-under
 use Rattle.block.proofs.put_value.Reads as put-value
 use Rattle.block.proofs.+put_dash+put_dashed+put_key+put_members+put_question+put_row+put_rows+put_under+put_value.Lts-put_value as put-value-lts
 use Rattle.block.proofs.+put_dash+put_dashed+put_key+put_members+put_question+put_row+put_rows+put_under+put_value.Proof.Base.{put-value-at, put-value-claims}

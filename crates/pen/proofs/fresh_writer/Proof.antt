@@ -1,7 +1,7 @@
 use borrow.Author.Needs.{needs}
 use Rattle.pen.specs.Shown.{begun}
-use Rattle.document.proofs.fresh_writer.Statement.{statement}
-use Rattle.document.proofs.fresh_writer.Tie as tie
+use Rattle.pen.proofs.fresh_writer.Statement.{statement}
+use Rattle.pen.proofs.fresh_writer.Tie as tie
 
 first-mode-requires : tie.Need-first-mode-requires
 first-mode-requires c κs = search needs

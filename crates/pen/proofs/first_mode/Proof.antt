@@ -1,8 +1,8 @@
 use mathlib.Core.Path.{refl}
 use borrow.Author.Tests.{eq-eqb, ne-eqb}
 use Rattle.pen.specs.Shown.{keeps}
-use Rattle.document.proofs.first_mode.Statement.{statement}
-use Rattle.document.proofs.first_mode.Tie as tie
+use Rattle.pen.proofs.first_mode.Statement.{statement}
+use Rattle.pen.proofs.first_mode.Tie as tie
 
 returns : tie.Need-returns
 unfolding keeps
