@@ -3,8 +3,6 @@ use blocks::put_block_body;
 use blocks::put_header;
 use deck::is_marked;
 use definition::Lines;
-use definition::NullStyle;
-use definition::Settings;
 use definition::Style;
 use definition::Text;
 use definition::Words;
@@ -13,6 +11,7 @@ use node::Remark;
 use parts::put_remark;
 use pen::Writer;
 use scalar::put_scalar;
+use terms::Terms;
 ghost use mathlib.Core.Path.{_≡_};
 ghost use mathlib.Core.Bool.{not, _&&_};
 ghost use mathlib.Core.List.{_∷_};
@@ -23,37 +22,27 @@ ghost use Rattle.definition.specs.Settings.{isTilde};
 ghost use Rattle.definition.specs.Scalar.{markerOf};
 ghost use Rattle.definition.specs.Deck.{marked, words};
 ghost use Rattle.definition.specs.Walk.{isBlockStyle, replays};
+ghost use Rattle.terms.specs.Terms.{settingsIn};
 ghost use Rattle.node.specs.Total.{heldOf, remarkOf};
 ghost use Rattle.pen.specs.Pen.{fields, pen, puts, ink};
 ghost use Rattle.pen.specs.Draws.{Draws};
 ghost use Rattle.atoms.specs.Atoms.{on, numberOf, nullIn, commented, freshIn};
 
-fn is_tilde(settings: Settings) -> bool
-    ensures { λ r. ⌜ r ≡ isTilde (settings .«null_style») ⌝ }
-{
-    let style = settings.null_style;
-    match style {
-        NullStyle::Null => false,
-        NullStyle::Empty => false,
-        NullStyle::Tilde => true,
-    }
-}
-
 // A null that was edited in, where those are written `~`.
-fn is_tilde_null(settings: Settings, lines: Lines) -> bool
-    ensures { λ r. ⌜ r ≡ (marked (lines .marks) 8 && isTilde (settings .«null_style»)) ⌝ }
+fn is_tilde_null(terms: Terms, lines: Lines) -> bool
+    ensures { λ r. ⌜ r ≡ (marked (lines .marks) 8 && isTilde (settingsIn terms .«null_style»)) ⌝ }
 {
     if is_marked(lines.marks, 8) {
-        return is_tilde(settings);
+        return terms.is_tilde();
     }
     false
 }
 
-pub fn put_null(w: Writer, out: &mut [u8], settings: Settings, lines: Lines) -> Writer
+pub fn put_null(w: Writer, out: &mut [u8], terms: Terms, lines: Lines) -> Writer
     requires { ⌜ length (now out) < 2 ^ 62 ⌝ }
-    ensures { λ r. ⌜ pen r (now (out .exit)) ≡ puts (nullIn settings lines) (pen w (now (out .entry))) ⌝ }
+    ensures { λ r. ⌜ pen r (now (out .exit)) ≡ puts (nullIn (settingsIn terms) lines) (pen w (now (out .entry))) ⌝ }
 {
-    if is_tilde_null(settings, lines) {
+    if is_tilde_null(terms, lines) {
         return w.byte(out, b'~');
     }
     w.text(out, b"null")
@@ -135,14 +124,14 @@ fn put_fresh(
     deck: &[u8],
     pool: &[u8],
     out: &mut [u8],
-    settings: Settings,
+    terms: Terms,
     i: usize,
     place: usize,
     remark: Remark,
     said: Words,
 ) -> Writer
     requires { ⌜ (length (now out) < 2 ^ 62) × (length (now pool) ≤ 65536) × (place < 2 ^ 62) × (w .column < 2 ^ 63) ⌝ }
-    ensures { λ r. ⌜ pen r (now (out .exit)) ≡ ink settings
+    ensures { λ r. ⌜ pen r (now (out .exit)) ≡ ink (settingsIn terms)
         (freshIn (on (fields w .flow)) (on (fields w .key)) i place (remarkOf (now (deck .entry)) (now (pool .entry)) remark) (words (now (pool .entry)) (said .text)) (said .style))
         (pen w (now (out .entry))) ⌝ }
 {
@@ -153,7 +142,7 @@ fn put_fresh(
     if is_on_header(remark, style, flow) {
         return put_commented(w, deck, pool, out, marker_of(style), i, place, remark, t);
     }
-    put_scalar(w, out, settings, flow, key, t, style, i)
+    put_scalar(w, out, terms, flow, key, t, style, i)
 }
 
 // There is a raw text, and the node is not modified.
@@ -172,7 +161,7 @@ pub fn put_words(
     deck: &[u8],
     pool: &[u8],
     out: &mut [u8],
-    settings: Settings,
+    terms: Terms,
     i: usize,
     place: usize,
     remark: Remark,
@@ -181,7 +170,7 @@ pub fn put_words(
     said: Words,
 ) -> Writer
     requires { ⌜ (length (now out) < 2 ^ 62) × (length (now pool) ≤ 65536) × (place < 2 ^ 62) × (w .column < 2 ^ 63) × (w .len < 2 ^ 62) ⌝ }
-    ensures { λ r. ⌜ pen r (now (out .exit)) ≡ ink settings
+    ensures { λ r. ⌜ pen r (now (out .exit)) ≡ ink (settingsIn terms)
         (replays place (heldOf (now (deck .entry)) (now (pool .entry)) raw) modified
         (freshIn (on (fields w .flow)) (on (fields w .key)) i place (remarkOf (now (deck .entry)) (now (pool .entry)) remark) (words (now (pool .entry)) (said .text)) (said .style)))
         (pen w (now (out .entry))) ⌝ }
@@ -189,5 +178,5 @@ pub fn put_words(
     if is_replayed(raw, modified) {
         return w.replay(out, deck::words_of(pool, deck::text_in(deck, raw.at)));
     }
-    put_fresh(w, deck, pool, out, settings, i, place, remark, said)
+    put_fresh(w, deck, pool, out, terms, i, place, remark, said)
 }

@@ -5,8 +5,6 @@ use definition::Cursor;
 use definition::Form;
 use definition::Group;
 use definition::Lines;
-use definition::NullStyle;
-use definition::Settings;
 use definition::Style;
 use definition::Words;
 use node::Held;
@@ -15,6 +13,7 @@ use node::Origin;
 use node::Remark;
 use parts::is_either;
 use spot::Body;
+use terms::Terms;
 ghost use mathlib.Core.Path.{_≡_};
 ghost use mathlib.Core.Bool.{not, _&&_, _||_};
 ghost use Prim.Native.Nat.{_+_, _<_, _≤_, _^_};
@@ -23,6 +22,7 @@ ghost use Rattle.definition.specs.Base.{isNil};
 ghost use Rattle.definition.specs.Settings.{stepOf, isEmptyStyle};
 ghost use Rattle.definition.specs.Deck.{words, marked};
 ghost use Rattle.definition.specs.Walk.{isBlockForm, isBlockStyle, isPlain};
+ghost use Rattle.terms.specs.Terms.{settingsIn};
 ghost use Rattle.parts.specs.Props.{hasHeld};
 ghost use Rattle.spot.specs.Good.{countIn};
 ghost use Rattle.atoms.specs.Atoms.{on};
@@ -162,17 +162,6 @@ pub fn is_explicit(first: bool, lead: Lead, body: Body) -> bool
     false
 }
 
-fn is_empty_style(settings: Settings) -> bool
-    ensures { λ r. ⌜ r ≡ isEmptyStyle (settings .«null_style») ⌝ }
-{
-    let style = settings.null_style;
-    match style {
-        NullStyle::Null => false,
-        NullStyle::Empty => true,
-        NullStyle::Tilde => false,
-    }
-}
-
 // A null that was edited in.
 fn is_edited(lines: Lines, body: Body) -> bool
     ensures { λ r. ⌜ r ≡ editedIn lines body ⌝ }
@@ -183,33 +172,33 @@ fn is_edited(lines: Lines, body: Body) -> bool
     false
 }
 
-fn is_silent(settings: Settings, lines: Lines, remark: Remark, body: Body) -> bool
-    ensures { λ r. ⌜ r ≡ (not (on (remark .at)) && (not (editedIn lines body) || isEmptyStyle (settings .«null_style»))) ⌝ }
+fn is_silent(terms: Terms, lines: Lines, remark: Remark, body: Body) -> bool
+    ensures { λ r. ⌜ r ≡ (not (on (remark .at)) && (not (editedIn lines body) || isEmptyStyle (settingsIn terms .«null_style»))) ⌝ }
 {
     if remark.at != 0 {
         return false;
     }
     if is_edited(lines, body) {
-        return is_empty_style(settings);
+        return terms.is_empty_style();
     }
     true
 }
 
 // A null or an empty plain scalar of which nothing is written after its introducer.
-pub fn bare(settings: Settings, pool: &[u8], lines: Lines, remark: Remark, body: Body) -> bool
-    ensures { λ r. ⌜ r ≡ bareIn settings (now (pool .entry)) lines remark body ⌝ }
+pub fn bare(terms: Terms, pool: &[u8], lines: Lines, remark: Remark, body: Body) -> bool
+    ensures { λ r. ⌜ r ≡ bareIn (settingsIn terms) (now (pool .entry)) lines remark body ⌝ }
 {
     if is_empty_scalar(body, pool) {
-        return is_silent(settings, lines, remark, body);
+        return is_silent(terms, lines, remark, body);
     }
     false
 }
 
 // Columns of one step: 0 means 2.
-pub fn step_of(settings: Settings) -> usize
-    ensures { λ r. ⌜ (r ≡ stepOf settings) × (settings .indent ≤ 16 → r ≤ 16) ⌝ }
+pub fn step_of(terms: Terms) -> usize
+    ensures { λ r. ⌜ (r ≡ stepOf (settingsIn terms)) × (settingsIn terms .indent ≤ 16 → r ≤ 16) ⌝ }
 {
-    let step = settings.indent;
+    let step = terms.indent();
     if step == 0 {
         return 2;
     }
@@ -223,11 +212,11 @@ fn is_held(h: Held) -> bool
 }
 
 // A sequence stands at its key's column.
-fn is_flush(settings: Settings, lines: Lines, tag: Held, i: usize) -> bool
-    ensures { λ r. ⌜ r ≡ flushIn settings lines tag i ⌝ }
+fn is_flush(terms: Terms, lines: Lines, tag: Held, i: usize) -> bool
+    ensures { λ r. ⌜ r ≡ flushIn (settingsIn terms) lines tag i ⌝ }
 {
-    if settings.indent_sequences {
-        if settings.indentless {
+    if terms.indents_sequences() {
+        if terms.is_indentless() {
             return !is_held(tag);
         }
         return false;
@@ -235,24 +224,24 @@ fn is_flush(settings: Settings, lines: Lines, tag: Held, i: usize) -> bool
     lines.column <= i
 }
 
-fn is_flush_sequence(settings: Settings, lines: Lines, tag: Held, i: usize, body: Body) -> bool
-    ensures { λ r. ⌜ r ≡ (sequenceIn body && flushIn settings lines tag i) ⌝ }
+fn is_flush_sequence(terms: Terms, lines: Lines, tag: Held, i: usize, body: Body) -> bool
+    ensures { λ r. ⌜ r ≡ (sequenceIn body && flushIn (settingsIn terms) lines tag i) ⌝ }
 {
     if is_sequence(body) {
-        return is_flush(settings, lines, tag, i);
+        return is_flush(terms, lines, tag, i);
     }
     false
 }
 
 // The column of a block collection's body after a key at column i.
-pub fn value_column(settings: Settings, lines: Lines, tag: Held, i: usize, body: Body) -> usize
-    requires { ⌜ (i < 2 ^ 40) × (settings .indent ≤ 16) ⌝ }
-    ensures { λ r. ⌜ (r ≡ valueColumnIn settings lines tag i body) × (i ≤ r) × (r ≤ i + 16) ⌝ }
+pub fn value_column(terms: Terms, lines: Lines, tag: Held, i: usize, body: Body) -> usize
+    requires { ⌜ (i < 2 ^ 40) × (settingsIn terms .indent ≤ 16) ⌝ }
+    ensures { λ r. ⌜ (r ≡ valueColumnIn (settingsIn terms) lines tag i body) × (i ≤ r) × (r ≤ i + 16) ⌝ }
 {
-    if is_flush_sequence(settings, lines, tag, i, body) {
+    if is_flush_sequence(terms, lines, tag, i, body) {
         return i;
     }
-    i + step_of(settings)
+    i + step_of(terms)
 }
 
 fn is_stepped(tag: Held, anchor: Held, body: Body) -> bool
@@ -265,12 +254,12 @@ fn is_stepped(tag: Held, anchor: Held, body: Body) -> bool
 }
 
 // The column of a block collection's body after a dash at column i.
-pub fn item_column(settings: Settings, tag: Held, anchor: Held, i: usize, body: Body) -> usize
-    requires { ⌜ (i < 2 ^ 40) × (settings .indent ≤ 16) ⌝ }
-    ensures { λ r. ⌜ (r ≡ itemColumnIn settings tag anchor i body) × (i ≤ r) × (r ≤ i + 16) ⌝ }
+pub fn item_column(terms: Terms, tag: Held, anchor: Held, i: usize, body: Body) -> usize
+    requires { ⌜ (i < 2 ^ 40) × (settingsIn terms .indent ≤ 16) ⌝ }
+    ensures { λ r. ⌜ (r ≡ itemColumnIn (settingsIn terms) tag anchor i body) × (i ≤ r) × (r ≤ i + 16) ⌝ }
 {
     if is_stepped(tag, anchor, body) {
-        return i + step_of(settings);
+        return i + step_of(terms);
     }
     i + 2
 }
@@ -298,11 +287,11 @@ pub fn on_dash_line(lines: Lines, tag: Held, anchor: Held, remark: Remark, body:
     is_unbroken(lines, remark)
 }
 
-fn is_level(settings: Settings, body: Body) -> bool
-    ensures { λ r. ⌜ r ≡ (sequenceIn body && settings .indentless) ⌝ }
+fn is_level(terms: Terms, body: Body) -> bool
+    ensures { λ r. ⌜ r ≡ (sequenceIn body && settingsIn terms .indentless) ⌝ }
 {
     if is_sequence(body) {
-        return settings.indentless;
+        return terms.is_indentless();
     }
     false
 }
@@ -317,27 +306,27 @@ fn is_tagged(lines: Lines, tag: Held) -> bool
 }
 
 // The body of a root collection stands a step in: under a tag of its own, unless its dashes are flush.
-fn is_under_tag(settings: Settings, lines: Lines, tag: Held, body: Body) -> bool
-    ensures { λ r. ⌜ r ≡ (marked (lines .marks) 8 && hasHeld tag && not (sequenceIn body && settings .indentless)) ⌝ }
+fn is_under_tag(terms: Terms, lines: Lines, tag: Held, body: Body) -> bool
+    ensures { λ r. ⌜ r ≡ (marked (lines .marks) 8 && hasHeld tag && not (sequenceIn body && settingsIn terms .indentless)) ⌝ }
 {
     if is_tagged(lines, tag) {
-        return !is_level(settings, body);
+        return !is_level(terms, body);
     }
     false
 }
 
 // The column of a root collection's body.
-pub fn root_column(settings: Settings, lines: Lines, tag: Held, body: Body) -> usize
-    ensures { λ r. ⌜ (r ≡ rootColumnIn settings lines tag body) × (settings .indent ≤ 16 → r ≤ 16) ⌝ }
+pub fn root_column(terms: Terms, lines: Lines, tag: Held, body: Body) -> usize
+    ensures { λ r. ⌜ (r ≡ rootColumnIn (settingsIn terms) lines tag body) × (settingsIn terms .indent ≤ 16 → r ≤ 16) ⌝ }
 {
-    if is_under_tag(settings, lines, tag, body) {
-        return step_of(settings);
+    if is_under_tag(terms, lines, tag, body) {
+        return step_of(terms);
     }
     0
 }
 
-fn is_tag_alone(settings: Settings, remark: Remark, anchor: Held) -> bool
-    ensures { λ r. ⌜ r ≡ (not (on (remark .at)) && not (hasHeld anchor) && isEmptyStyle (settings .«null_style»)) ⌝ }
+fn is_tag_alone(terms: Terms, remark: Remark, anchor: Held) -> bool
+    ensures { λ r. ⌜ r ≡ (not (on (remark .at)) && not (hasHeld anchor) && isEmptyStyle (settingsIn terms .«null_style»)) ⌝ }
 {
     if remark.at != 0 {
         return false;
@@ -345,23 +334,23 @@ fn is_tag_alone(settings: Settings, remark: Remark, anchor: Held) -> bool
     if is_held(anchor) {
         return false;
     }
-    is_empty_style(settings)
+    terms.is_empty_style()
 }
 
 // A root null of which only the tag is written.
 pub fn bare_root(
-    settings: Settings,
+    terms: Terms,
     lines: Lines,
     remark: Remark,
     tag: Held,
     anchor: Held,
     body: Body,
 ) -> bool
-    ensures { λ r. ⌜ r ≡ bareRootIn settings lines remark tag anchor body ⌝ }
+    ensures { λ r. ⌜ r ≡ bareRootIn (settingsIn terms) lines remark tag anchor body ⌝ }
 {
     if is_null(body) {
         if is_tagged(lines, tag) {
-            return is_tag_alone(settings, remark, anchor);
+            return is_tag_alone(terms, remark, anchor);
         }
     }
     false

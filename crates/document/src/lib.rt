@@ -1,18 +1,19 @@
 // Documents: a root's body, a document with its directives and comments, one document, and all documents of a deck.
 use comments::Entries;
 use definition::Cursor;
-use definition::Settings;
 use flow::Emitted;
 use joints::Manner;
 use node::Lead;
 use node::Origin;
 use pen::Writer;
 use spot::Spot;
+use terms::Terms;
 ghost use mathlib.Core.Path.{_≡_};
 ghost use Prim.Native.Nat.{_<_, _^_, _/_, _%_};
 ghost use mathlib.Core.Bool.{true, not, _&&_};
 ghost use lib.ListN.{length};
 ghost use Rattle.definition.specs.Document.{dashes, dots, oneDocument, allDocuments};
+ghost use Rattle.terms.specs.Terms.{settingsIn};
 ghost use Rattle.node.specs.Total.{treesOf};
 ghost use Rattle.pen.specs.Pen.{pen, ink, ended};
 ghost use Rattle.pen.specs.Draws.{Draws};
@@ -64,11 +65,11 @@ fn put_start(w: Writer, out: &mut [u8], marks: usize) -> Writer
 }
 
 // `...`, where the settings ask for it.
-fn put_stop(w: Writer, out: &mut [u8], settings: Settings) -> Writer
+fn put_stop(w: Writer, out: &mut [u8], terms: Terms) -> Writer
     requires { ⌜ length (now out) < 2 ^ 62 ⌝ }
-    ensures { λ r. ⌜ Draws (stopIn settings) (pen w (now (out .entry))) (pen r (now (out .exit))) ⌝ }
+    ensures { λ r. ⌜ Draws (stopIn (settingsIn terms)) (pen w (now (out .entry))) (pen r (now (out .exit))) ⌝ }
 {
-    if settings.explicit_end {
+    if terms.ends_explicitly() {
         return put_dots(w, out);
     }
     w
@@ -115,21 +116,14 @@ fn put_opening(w: Writer, deck: &[u8], pool: &[u8], out: &mut [u8], lead: Lead) 
 }
 
 // A root that is a block collection.
-fn put_block(
-    w: Writer,
-    deck: &[u8],
-    pool: &[u8],
-    out: &mut [u8],
-    settings: Settings,
-    x: Spot,
-) -> Emitted
-    requires { ⌜ (Calm settings (now deck) (now pool) (pen w (now out)) (x .place) 0) × Good (now deck) x × (countIn (x .body) < 65536) ⌝ }
-    ensures { λ r. ⌜ Emits settings (blockRoot settings (now (deck .entry)) (now (pool .entry)) x) (pen w (now (out .entry))) (pen (r .w) (now (out .exit))) (x .place) (endIn (now (deck .entry)) (now (pool .entry)) x) (r .next) (length (now (deck .entry))) ⌝ }
+fn put_block(w: Writer, deck: &[u8], pool: &[u8], out: &mut [u8], terms: Terms, x: Spot) -> Emitted
+    requires { ⌜ (Calm (settingsIn terms) (now deck) (now pool) (pen w (now out)) (x .place) 0) × Good (now deck) x × (countIn (x .body) < 65536) ⌝ }
+    ensures { λ r. ⌜ Emits (settingsIn terms) (blockRoot (settingsIn terms) (now (deck .entry)) (now (pool .entry)) x) (pen w (now (out .entry))) (pen (r .w) (now (out .exit))) (x .place) (endIn (now (deck .entry)) (now (pool .entry)) x) (r .next) (length (now (deck .entry))) ⌝ }
 {
     let body = x.body;
-    let i = choices::root_column(settings, x.lead.lines, x.lead.tag, body);
+    let i = choices::root_column(terms, x.lead.lines, x.lead.tag, body);
     let w1 = parts::put_props_line(w, deck, pool, out, x.lead);
-    block::put_members(w1, deck, pool, out, settings, x, i, true)
+    block::put_members(w1, deck, pool, out, terms, x, i, true)
 }
 
 // A root on one line.
@@ -138,14 +132,14 @@ fn put_inlined(
     deck: &[u8],
     pool: &[u8],
     out: &mut [u8],
-    settings: Settings,
+    terms: Terms,
     x: Spot,
 ) -> Emitted
-    requires { ⌜ (Calm settings (now deck) (now pool) (pen w (now out)) (x .place) 0) × Good (now deck) x × (countIn (x .body) < 65536) ⌝ }
-    ensures { λ r. ⌜ Emits settings (lineRoot settings (now (deck .entry)) (now (pool .entry)) x) (pen w (now (out .entry))) (pen (r .w) (now (out .exit))) (x .place) (endIn (now (deck .entry)) (now (pool .entry)) x) (r .next) (length (now (deck .entry))) ⌝ }
+    requires { ⌜ (Calm (settingsIn terms) (now deck) (now pool) (pen w (now out)) (x .place) 0) × Good (now deck) x × (countIn (x .body) < 65536) ⌝ }
+    ensures { λ r. ⌜ Emits (settingsIn terms) (lineRoot (settingsIn terms) (now (deck .entry)) (now (pool .entry)) x) (pen w (now (out .entry))) (pen (r .w) (now (out .exit))) (x .place) (endIn (now (deck .entry)) (now (pool .entry)) x) (r .next) (length (now (deck .entry))) ⌝ }
 {
-    let i = choices::step_of(settings);
-    let e = flow::line(w, deck, pool, out, settings, x, i, Manner::Value, false);
+    let i = choices::step_of(terms);
+    let e = flow::line(w, deck, pool, out, terms, x, i, Manner::Value, false);
     let next = e.next;
     let v = e.w.anew();
     Emitted { w: v, next }
@@ -167,13 +161,13 @@ fn put_root(
     deck: &[u8],
     pool: &[u8],
     out: &mut [u8],
-    settings: Settings,
+    terms: Terms,
     c: Cursor,
     x: Spot,
     passed: bool,
 ) -> Emitted
-    requires { ⌜ (Calm settings (now deck) (now pool) (pen w (now out)) (c .at) 0) × (x ≡ spotAt (now deck) c) ⌝ }
-    ensures { λ r. ⌜ Emits settings (rootOf settings (now (deck .entry)) (now (pool .entry)) passed x) (pen w (now (out .entry))) (pen (r .w) (now (out .exit))) (c .at) (nextAt (now (deck .entry)) (now (pool .entry)) c) (r .next) (length (now (deck .entry))) ⌝ }
+    requires { ⌜ (Calm (settingsIn terms) (now deck) (now pool) (pen w (now out)) (c .at) 0) × (x ≡ spotAt (now deck) c) ⌝ }
+    ensures { λ r. ⌜ Emits (settingsIn terms) (rootOf (settingsIn terms) (now (deck .entry)) (now (pool .entry)) passed x) (pen w (now (out .entry))) (pen (r .w) (now (out .exit))) (c .at) (nextAt (now (deck .entry)) (now (pool .entry)) c) (r .next) (length (now (deck .entry))) ⌝ }
 {
     let body = x.body;
     if is_directed(x.lead.origin, passed) {
@@ -182,10 +176,10 @@ fn put_root(
         return Emitted { w: v, next };
     }
     if choices::is_block(body) {
-        return put_block(w, deck, pool, out, settings, x);
+        return put_block(w, deck, pool, out, terms, x);
     }
     if choices::bare_root(
-        settings,
+        terms,
         x.lead.lines,
         x.lead.remark,
         x.lead.tag,
@@ -196,7 +190,7 @@ fn put_root(
         let next = x.next;
         return Emitted { w: v, next };
     }
-    put_inlined(w, deck, pool, out, settings, x)
+    put_inlined(w, deck, pool, out, terms, x)
 }
 
 // What stands before a document: before the first one a byte order mark, before another what separates it from the one before it.
@@ -216,18 +210,18 @@ fn put_document(
     deck: &[u8],
     pool: &[u8],
     out: &mut [u8],
-    settings: Settings,
+    terms: Terms,
     c: Cursor,
     passed: bool,
     first: bool,
 ) -> Emitted
-    requires { ⌜ Calm settings (now deck) (now pool) (pen w (now out)) (c .at) 0 ⌝ }
-    ensures { λ r. ⌜ Emits settings (placedOf settings first passed (nodeAt (now (deck .entry)) (now (pool .entry)) c)) (pen w (now (out .entry))) (pen (r .w) (now (out .exit))) (c .at) (nextAt (now (deck .entry)) (now (pool .entry)) c) (r .next) (length (now (deck .entry))) ⌝ }
+    requires { ⌜ Calm (settingsIn terms) (now deck) (now pool) (pen w (now out)) (c .at) 0 ⌝ }
+    ensures { λ r. ⌜ Emits (settingsIn terms) (placedOf (settingsIn terms) first passed (nodeAt (now (deck .entry)) (now (pool .entry)) c)) (pen w (now (out .entry))) (pen (r .w) (now (out .exit))) (c .at) (nextAt (now (deck .entry)) (now (pool .entry)) c) (r .next) (length (now (deck .entry))) ⌝ }
 {
     let x = spot::spot_at(deck, c);
     let w1 = put_front(w, out, x.lead, first);
     let w2 = put_opening(w1, deck, pool, out, x.lead);
-    let e = put_root(w2, deck, pool, out, settings, c, x, passed);
+    let e = put_root(w2, deck, pool, out, terms, c, x, passed);
     block::with_foots(e, deck, pool, out, x, 0)
 }
 
@@ -248,20 +242,20 @@ fn put_documents(
     deck: &[u8],
     pool: &[u8],
     out: &mut [u8],
-    settings: Settings,
+    terms: Terms,
     c: Cursor,
     passed: bool,
     n: usize,
 ) -> Writer
-    requires { ⌜ Calm settings (now deck) (now pool) (pen w (now out)) (c .at) 0 ⌝ }
-    ensures { λ r. ⌜ pen r (now (out .exit)) ≡ ink settings (placedFrom settings (now (deck .entry)) (now (pool .entry)) passed true n c) (pen w (now (out .entry))) ⌝ }
+    requires { ⌜ Calm (settingsIn terms) (now deck) (now pool) (pen w (now out)) (c .at) 0 ⌝ }
+    ensures { λ r. ⌜ pen r (now (out .exit)) ≡ ink (settingsIn terms) (placedFrom (settingsIn terms) (now (deck .entry)) (now (pool .entry)) passed true n c) (pen w (now (out .entry))) ⌝ }
 {
     let mut v = w;
     let mut here = c;
     let mut left = n;
     let mut first = true;
     while left > 0 {
-        let e = put_document(v, deck, pool, out, settings, here, passed, first);
+        let e = put_document(v, deck, pool, out, terms, here, passed, first);
         v = e.w;
         here = e.next;
         first = false;
@@ -276,25 +270,25 @@ pub fn write_one(
     deck: &[u8],
     pool: &[u8],
     out: &mut [u8],
-    settings: Settings,
+    terms: Terms,
     c: Cursor,
     passed: bool,
 ) -> Writer
-    requires { ⌜ Calm settings (now deck) (now pool) (pen w (now out)) (c .at) 0 ⌝ }
-    ensures { λ r. ⌜ pen r (now (out .exit)) ≡ ended (ink settings (oneDocument settings passed (nodeAt (now (deck .entry)) (now (pool .entry)) c)) (pen w (now (out .entry)))) ⌝ }
+    requires { ⌜ Calm (settingsIn terms) (now deck) (now pool) (pen w (now out)) (c .at) 0 ⌝ }
+    ensures { λ r. ⌜ pen r (now (out .exit)) ≡ ended (ink (settingsIn terms) (oneDocument (settingsIn terms) passed (nodeAt (now (deck .entry)) (now (pool .entry)) c)) (pen w (now (out .entry)))) ⌝ }
 {
-    let v = put_documents(w, deck, pool, out, settings, c, passed, 1);
-    let v1 = put_stop(v, out, settings);
+    let v = put_documents(w, deck, pool, out, terms, c, passed, 1);
+    let v1 = put_stop(v, out, terms);
     v1.finish(out)
 }
 
 // `emit_roundtrip_all_with`, to the end of the file.
-pub fn write_all(w: Writer, deck: &[u8], pool: &[u8], out: &mut [u8], settings: Settings) -> Writer
-    requires { ⌜ Calm settings (now deck) (now pool) (pen w (now out)) 0 0 ⌝ }
-    ensures { λ r. ⌜ pen r (now (out .exit)) ≡ ended (ink settings (allDocuments settings (treesOf (now (deck .entry)) (now (pool .entry)))) (pen w (now (out .entry)))) ⌝ }
+pub fn write_all(w: Writer, deck: &[u8], pool: &[u8], out: &mut [u8], terms: Terms) -> Writer
+    requires { ⌜ Calm (settingsIn terms) (now deck) (now pool) (pen w (now out)) 0 0 ⌝ }
+    ensures { λ r. ⌜ pen r (now (out .exit)) ≡ ended (ink (settingsIn terms) (allDocuments (settingsIn terms) (treesOf (now (deck .entry)) (now (pool .entry)))) (pen w (now (out .entry)))) ⌝ }
 {
     let c = Cursor { at: 0 };
     let n = deck.len();
-    let v = put_documents(w, deck, pool, out, settings, c, false, n);
+    let v = put_documents(w, deck, pool, out, terms, c, false, n);
     v.finish(out)
 }

@@ -99,10 +99,10 @@ fn write_file(deck: &[u8], pool: &[u8], out: &mut [u8], start: usize, f: Found) 
     requires { ⌜ (length (now deck) ≤ 65536) × (length (now pool) ≤ 65536) × (length (now out) ≤ 1048576) × (start ≤ length (now out)) × (f .at .at ≤ length (now deck)) ⌝ }
     ensures { λ r. ⌜ (r ≡ fileStep (now (deck .entry)) (now (pool .entry)) (now (out .entry)) start f .made) × (now (out .exit) ≡ fileStep (now (deck .entry)) (now (pool .entry)) (now (out .entry)) start f .out) ⌝ }
 {
-    let settings = plain();
-    let w = pen::fresh_writer(settings);
+    let terms = terms::terms_of(plain());
+    let w = pen::fresh_writer(terms);
     let c = f.at;
-    let v = document::write_one(w, deck, pool, &mut out[start..], settings, c, true);
+    let v = document::write_one(w, deck, pool, &mut out[start..], terms, c, true);
     let length = v.len;
     let next = f.next;
     let change = Change {

@@ -1,10 +1,10 @@
 // A node on one line: its content, keys, flow collections. The first cycle of calls; nothing here knows of block layout.
 use definition::Cursor;
-use definition::Settings;
 use joints::Manner;
 use pen::Writer;
 use spot::Body;
 use spot::Spot;
+use terms::Terms;
 ghost use mathlib.Core.Path.{_≡_};
 ghost use Prim.Native.Nat.{_+_, _<_, _≤_, _^_};
 ghost use mathlib.Core.Bool.{true};
@@ -12,6 +12,7 @@ ghost use mathlib.Core.List.{[]};
 ghost use lib.ListN.{length};
 ghost use Rattle.definition.specs.Settings.{stepOf};
 ghost use Rattle.definition.specs.Walk.{contentOf};
+ghost use Rattle.terms.specs.Terms.{settingsIn};
 ghost use Rattle.pen.specs.Pen.{fields, pen, withFlow};
 ghost use Rattle.spot.specs.Spot.{keptIn, broughtIn, kindIn, nodeIn, endIn};
 ghost use Rattle.spot.specs.Good.{Good, countIn};
@@ -72,19 +73,19 @@ fn content(
     deck: &[u8],
     pool: &[u8],
     out: &mut [u8],
-    settings: Settings,
+    terms: Terms,
     x: Spot,
     i: usize,
     still: bool,
 ) -> Emitted
-    requires { ⌜ (Ready settings (now deck) (now pool) (pen w (now out)) (x .place) i) × Good (now deck) x × (countIn (x .body) < 65536) × HushedIn (now deck) (now pool) still x ⌝ }
-    ensures { λ r. ⌜ Emits settings (contentOf settings (on (fields w .flow)) (on (fields w .key)) i (x .place) (keptIn (now (deck .entry)) (now (pool .entry)) x) (broughtIn (now (deck .entry)) (now (pool .entry)) x) (kindIn (now (deck .entry)) (now (pool .entry)) x)) (pen w (now (out .entry))) (pen (r .w) (now (out .exit))) (x .place) (endIn (now (deck .entry)) (now (pool .entry)) x) (r .next) (length (now (deck .entry))) ⌝ }
+    requires { ⌜ (Ready (settingsIn terms) (now deck) (now pool) (pen w (now out)) (x .place) i) × Good (now deck) x × (countIn (x .body) < 65536) × HushedIn (now deck) (now pool) still x ⌝ }
+    ensures { λ r. ⌜ Emits (settingsIn terms) (contentOf (settingsIn terms) (on (fields w .flow)) (on (fields w .key)) i (x .place) (keptIn (now (deck .entry)) (now (pool .entry)) x) (broughtIn (now (deck .entry)) (now (pool .entry)) x) (kindIn (now (deck .entry)) (now (pool .entry)) x)) (pen w (now (out .entry))) (pen (r .w) (now (out .exit))) (x .place) (endIn (now (deck .entry)) (now (pool .entry)) x) (r .next) (length (now (deck .entry))) ⌝ }
 {
     let body = x.body;
     let next = x.next;
     match body {
         Body::Null => {
-            let v = atoms::put_null(w, out, settings, x.lead.lines);
+            let v = atoms::put_null(w, out, terms, x.lead.lines);
             Emitted { w: v, next }
         }
         Body::Scalar(told) => {
@@ -94,7 +95,7 @@ fn content(
                 deck,
                 pool,
                 out,
-                settings,
+                terms,
                 i,
                 x.place,
                 x.lead.remark,
@@ -111,13 +112,13 @@ fn content(
         Body::Sequence(g) => {
             let flow = w.flow();
             let v = w.with_flow(flow + 1);
-            let e = group(v, deck, pool, out, settings, false, g.count, next, i, still);
+            let e = group(v, deck, pool, out, terms, false, g.count, next, i, still);
             back(e, flow)
         }
         Body::Mapping(g) => {
             let flow = w.flow();
             let v = w.with_flow(flow + 1);
-            let e = group(v, deck, pool, out, settings, true, g.count, next, i, still);
+            let e = group(v, deck, pool, out, terms, true, g.count, next, i, still);
             back(e, flow)
         }
     }
@@ -129,22 +130,22 @@ fn group(
     deck: &[u8],
     pool: &[u8],
     out: &mut [u8],
-    settings: Settings,
+    terms: Terms,
     pairs: bool,
     n: usize,
     c: Cursor,
     i: usize,
     still: bool,
 ) -> Emitted
-    requires { ⌜ (Ready settings (now deck) (now pool) (pen w (now out)) (c .at) (i + stepOf settings)) × (n < 65536) × Hushed (now deck) (now pool) still (treesIn pairs n) c ⌝ }
-    ensures { λ r. ⌜ Emits settings (groupOf (now (deck .entry)) (now (pool .entry)) settings (on (fields w .flow)) (on (fields w .key)) i pairs n c) (pen w (now (out .entry))) (pen (r .w) (now (out .exit))) (c .at) (runEnd (now (deck .entry)) (now (pool .entry)) pairs n c) (r .next) (length (now (deck .entry))) ⌝ }
+    requires { ⌜ (Ready (settingsIn terms) (now deck) (now pool) (pen w (now out)) (c .at) (i + stepOf (settingsIn terms))) × (n < 65536) × Hushed (now deck) (now pool) still (treesIn pairs n) c ⌝ }
+    ensures { λ r. ⌜ Emits (settingsIn terms) (groupOf (now (deck .entry)) (now (pool .entry)) (settingsIn terms) (on (fields w .flow)) (on (fields w .key)) i pairs n c) (pen w (now (out .entry))) (pen (r .w) (now (out .exit))) (c .at) (runEnd (now (deck .entry)) (now (pool .entry)) pairs n c) (r .next) (length (now (deck .entry))) ⌝ }
 {
-    let j = i + choices::step_of(settings);
+    let j = i + choices::step_of(terms);
     let quiet = is_quiet(deck, still, pairs, c, n);
     if is_lined(deck, quiet, pairs, c, n) {
-        return lined_group(w, deck, pool, out, settings, pairs, n, c, i, j);
+        return lined_group(w, deck, pool, out, terms, pairs, n, c, i, j);
     }
-    plain_group(w, deck, pool, out, settings, pairs, n, c, i, quiet)
+    plain_group(w, deck, pool, out, terms, pairs, n, c, i, quiet)
 }
 
 // `emit_commented_flow_sequence` and `emit_commented_flow_mapping`: each entry on a line of its own, at column j.
@@ -153,19 +154,19 @@ fn lined_group(
     deck: &[u8],
     pool: &[u8],
     out: &mut [u8],
-    settings: Settings,
+    terms: Terms,
     pairs: bool,
     n: usize,
     c: Cursor,
     i: usize,
     j: usize,
 ) -> Emitted
-    requires { ⌜ (Ready settings (now deck) (now pool) (pen w (now out)) (c .at) j) × (i ≤ j) ⌝ }
-    ensures { λ r. ⌜ Emits settings (linedIn (now (deck .entry)) (now (pool .entry)) settings (on (fields w .flow)) (on (fields w .key)) i j pairs n c) (pen w (now (out .entry))) (pen (r .w) (now (out .exit))) (c .at) (runEnd (now (deck .entry)) (now (pool .entry)) pairs n c) (r .next) (length (now (deck .entry))) ⌝ }
+    requires { ⌜ (Ready (settingsIn terms) (now deck) (now pool) (pen w (now out)) (c .at) j) × (i ≤ j) ⌝ }
+    ensures { λ r. ⌜ Emits (settingsIn terms) (linedIn (now (deck .entry)) (now (pool .entry)) (settingsIn terms) (on (fields w .flow)) (on (fields w .key)) i j pairs n c) (pen w (now (out .entry))) (pen (r .w) (now (out .exit))) (c .at) (runEnd (now (deck .entry)) (now (pool .entry)) pairs n c) (r .next) (length (now (deck .entry))) ⌝ }
 {
     let w1 = w.byte(out, joints::opening_of(pairs));
     let w2 = w1.byte(out, b'\n');
-    let e = lined_entries(w2, deck, pool, out, settings, pairs, n, c, j);
+    let e = lined_entries(w2, deck, pool, out, terms, pairs, n, c, j);
     let next = e.next;
     let v1 = e.w.spaces(out, i);
     let v2 = v1.byte(out, joints::closing_of(pairs));
@@ -178,18 +179,18 @@ fn plain_group(
     deck: &[u8],
     pool: &[u8],
     out: &mut [u8],
-    settings: Settings,
+    terms: Terms,
     pairs: bool,
     n: usize,
     c: Cursor,
     i: usize,
     still: bool,
 ) -> Emitted
-    requires { ⌜ (Ready settings (now deck) (now pool) (pen w (now out)) (c .at) i) × Hushed (now deck) (now pool) still (treesIn pairs n) c ⌝ }
-    ensures { λ r. ⌜ Emits settings (plainIn (now (deck .entry)) (now (pool .entry)) settings (on (fields w .flow)) (on (fields w .key)) i pairs n c) (pen w (now (out .entry))) (pen (r .w) (now (out .exit))) (c .at) (runEnd (now (deck .entry)) (now (pool .entry)) pairs n c) (r .next) (length (now (deck .entry))) ⌝ }
+    requires { ⌜ (Ready (settingsIn terms) (now deck) (now pool) (pen w (now out)) (c .at) i) × Hushed (now deck) (now pool) still (treesIn pairs n) c ⌝ }
+    ensures { λ r. ⌜ Emits (settingsIn terms) (plainIn (now (deck .entry)) (now (pool .entry)) (settingsIn terms) (on (fields w .flow)) (on (fields w .key)) i pairs n c) (pen w (now (out .entry))) (pen (r .w) (now (out .exit))) (c .at) (runEnd (now (deck .entry)) (now (pool .entry)) pairs n c) (r .next) (length (now (deck .entry))) ⌝ }
 {
     let w1 = w.byte(out, joints::opening_of(pairs));
-    let e = flow_entries(w1, deck, pool, out, settings, pairs, n, c, i, still);
+    let e = flow_entries(w1, deck, pool, out, terms, pairs, n, c, i, still);
     let next = e.next;
     let v1 = e.w.byte(out, joints::closing_of(pairs));
     Emitted { w: v1, next }
@@ -201,20 +202,20 @@ fn lined_entries(
     deck: &[u8],
     pool: &[u8],
     out: &mut [u8],
-    settings: Settings,
+    terms: Terms,
     pairs: bool,
     n: usize,
     c: Cursor,
     i: usize,
 ) -> Emitted
-    requires { ⌜ Ready settings (now deck) (now pool) (pen w (now out)) (c .at) i ⌝ }
-    ensures { λ r. ⌜ Emits settings (linedRun (now (deck .entry)) (now (pool .entry)) settings (on (fields w .flow)) (on (fields w .key)) i pairs n c) (pen w (now (out .entry))) (pen (r .w) (now (out .exit))) (c .at) (runEnd (now (deck .entry)) (now (pool .entry)) pairs n c) (r .next) (length (now (deck .entry))) ⌝ }
+    requires { ⌜ Ready (settingsIn terms) (now deck) (now pool) (pen w (now out)) (c .at) i ⌝ }
+    ensures { λ r. ⌜ Emits (settingsIn terms) (linedRun (now (deck .entry)) (now (pool .entry)) (settingsIn terms) (on (fields w .flow)) (on (fields w .key)) i pairs n c) (pen w (now (out .entry))) (pen (r .w) (now (out .exit))) (c .at) (runEnd (now (deck .entry)) (now (pool .entry)) pairs n c) (r .next) (length (now (deck .entry))) ⌝ }
 {
     let mut v = w;
     let mut here = c;
     let mut left = n;
     while left > 0 {
-        let e = lined_entry(v, deck, pool, out, settings, pairs, here, i, left == 1);
+        let e = lined_entry(v, deck, pool, out, terms, pairs, here, i, left == 1);
         v = e.w;
         here = e.next;
         left -= 1;
@@ -228,23 +229,23 @@ fn flow_entries(
     deck: &[u8],
     pool: &[u8],
     out: &mut [u8],
-    settings: Settings,
+    terms: Terms,
     pairs: bool,
     n: usize,
     c: Cursor,
     i: usize,
     still: bool,
 ) -> Emitted
-    requires { ⌜ (Ready settings (now deck) (now pool) (pen w (now out)) (c .at) i) × Hushed (now deck) (now pool) still (treesIn pairs n) c ⌝ }
-    ensures { λ r. ⌜ Emits settings (flowRun (now (deck .entry)) (now (pool .entry)) settings (on (fields w .flow)) (on (fields w .key)) i pairs true n c) (pen w (now (out .entry))) (pen (r .w) (now (out .exit))) (c .at) (runEnd (now (deck .entry)) (now (pool .entry)) pairs n c) (r .next) (length (now (deck .entry))) ⌝ }
+    requires { ⌜ (Ready (settingsIn terms) (now deck) (now pool) (pen w (now out)) (c .at) i) × Hushed (now deck) (now pool) still (treesIn pairs n) c ⌝ }
+    ensures { λ r. ⌜ Emits (settingsIn terms) (flowRun (now (deck .entry)) (now (pool .entry)) (settingsIn terms) (on (fields w .flow)) (on (fields w .key)) i pairs true n c) (pen w (now (out .entry))) (pen (r .w) (now (out .exit))) (c .at) (runEnd (now (deck .entry)) (now (pool .entry)) pairs n c) (r .next) (length (now (deck .entry))) ⌝ }
 {
     let mut v = w;
     let mut here = c;
     let mut left = n;
     let mut first = true;
     while left > 0 {
-        let u = joints::put_between(v, out, settings, first, i);
-        let e = flow_entry(u, deck, pool, out, settings, pairs, here, i, still);
+        let u = joints::put_between(v, out, terms, first, i);
+        let e = flow_entry(u, deck, pool, out, terms, pairs, here, i, still);
         v = e.w;
         here = e.next;
         first = false;
@@ -259,20 +260,20 @@ fn lined_entry(
     deck: &[u8],
     pool: &[u8],
     out: &mut [u8],
-    settings: Settings,
+    terms: Terms,
     pairs: bool,
     c: Cursor,
     i: usize,
     last: bool,
 ) -> Emitted
-    requires { ⌜ Ready settings (now deck) (now pool) (pen w (now out)) (c .at) i ⌝ }
-    ensures { λ r. ⌜ Emits settings (linedOf (now (deck .entry)) (now (pool .entry)) settings (on (fields w .flow)) (on (fields w .key)) i pairs last c) (pen w (now (out .entry))) (pen (r .w) (now (out .exit))) (c .at) (entryEnd (now (deck .entry)) (now (pool .entry)) pairs c) (r .next) (length (now (deck .entry))) ⌝ }
+    requires { ⌜ Ready (settingsIn terms) (now deck) (now pool) (pen w (now out)) (c .at) i ⌝ }
+    ensures { λ r. ⌜ Emits (settingsIn terms) (linedOf (now (deck .entry)) (now (pool .entry)) (settingsIn terms) (on (fields w .flow)) (on (fields w .key)) i pairs last c) (pen w (now (out .entry))) (pen (r .w) (now (out .exit))) (c .at) (entryEnd (now (deck .entry)) (now (pool .entry)) pairs c) (r .next) (length (now (deck .entry))) ⌝ }
 {
     let end = joints::last_of(deck, pairs, c);
     let x = spot::spot_at(deck, end);
     let w1 = joints::put_lined_before(w, deck, pool, out, pairs, c, x.lead, i);
-    let k = entry_key(w1, deck, pool, out, settings, pairs, c, i, false);
-    let e = line(k.w, deck, pool, out, settings, x, i, Manner::Entry, false);
+    let k = entry_key(w1, deck, pool, out, terms, pairs, c, i, false);
+    let e = line(k.w, deck, pool, out, terms, x, i, Manner::Entry, false);
     let next = e.next;
     let v1 = joints::put_lined_after(e.w, deck, pool, out, last, x.place, x.lead.remark);
     Emitted { w: v1, next }
@@ -284,17 +285,17 @@ fn entry_key(
     deck: &[u8],
     pool: &[u8],
     out: &mut [u8],
-    settings: Settings,
+    terms: Terms,
     pairs: bool,
     c: Cursor,
     i: usize,
     still: bool,
 ) -> Emitted
-    requires { ⌜ (Ready settings (now deck) (now pool) (pen w (now out)) (c .at) i) × Hushed (now deck) (now pool) still (treesIn pairs 1) c ⌝ }
-    ensures { λ r. ⌜ Emits settings (entryKey (now (deck .entry)) (now (pool .entry)) settings (on (fields w .flow)) (on (fields w .key)) i pairs c) (pen w (now (out .entry))) (pen (r .w) (now (out .exit))) (c .at) (lastOf (now (deck .entry)) (now (pool .entry)) pairs c) (r .next) (length (now (deck .entry))) ⌝ }
+    requires { ⌜ (Ready (settingsIn terms) (now deck) (now pool) (pen w (now out)) (c .at) i) × Hushed (now deck) (now pool) still (treesIn pairs 1) c ⌝ }
+    ensures { λ r. ⌜ Emits (settingsIn terms) (entryKey (now (deck .entry)) (now (pool .entry)) (settingsIn terms) (on (fields w .flow)) (on (fields w .key)) i pairs c) (pen w (now (out .entry))) (pen (r .w) (now (out .exit))) (c .at) (lastOf (now (deck .entry)) (now (pool .entry)) pairs c) (r .next) (length (now (deck .entry))) ⌝ }
 {
     if pairs {
-        let e = entry_node(w, deck, pool, out, settings, c, i, Manner::Key, still);
+        let e = entry_node(w, deck, pool, out, terms, c, i, Manner::Key, still);
         let next = e.next;
         let v1 = e.w.byte(out, b' ');
         return Emitted { w: v1, next };
@@ -308,22 +309,22 @@ fn flow_entry(
     deck: &[u8],
     pool: &[u8],
     out: &mut [u8],
-    settings: Settings,
+    terms: Terms,
     pairs: bool,
     c: Cursor,
     i: usize,
     still: bool,
 ) -> Emitted
-    requires { ⌜ (Ready settings (now deck) (now pool) (pen w (now out)) (c .at) i) × Hushed (now deck) (now pool) still (treesIn pairs 1) c ⌝ }
-    ensures { λ r. ⌜ Emits settings (entryOf (now (deck .entry)) (now (pool .entry)) settings (on (fields w .flow)) (on (fields w .key)) i pairs c) (pen w (now (out .entry))) (pen (r .w) (now (out .exit))) (c .at) (entryEnd (now (deck .entry)) (now (pool .entry)) pairs c) (r .next) (length (now (deck .entry))) ⌝ }
+    requires { ⌜ (Ready (settingsIn terms) (now deck) (now pool) (pen w (now out)) (c .at) i) × Hushed (now deck) (now pool) still (treesIn pairs 1) c ⌝ }
+    ensures { λ r. ⌜ Emits (settingsIn terms) (entryOf (now (deck .entry)) (now (pool .entry)) (settingsIn terms) (on (fields w .flow)) (on (fields w .key)) i pairs c) (pen w (now (out .entry))) (pen (r .w) (now (out .exit))) (c .at) (entryEnd (now (deck .entry)) (now (pool .entry)) pairs c) (r .next) (length (now (deck .entry))) ⌝ }
 {
     if pairs {
-        let e = entry_node(w, deck, pool, out, settings, c, i, Manner::Key, still);
+        let e = entry_node(w, deck, pool, out, terms, c, i, Manner::Key, still);
         let next = e.next;
         let v1 = e.w.byte(out, b' ');
-        return entry_node(v1, deck, pool, out, settings, next, i, Manner::Entry, still);
+        return entry_node(v1, deck, pool, out, terms, next, i, Manner::Entry, still);
     }
-    entry_node(w, deck, pool, out, settings, c, i, Manner::Entry, still)
+    entry_node(w, deck, pool, out, terms, c, i, Manner::Entry, still)
 }
 
 // A node on its line: its properties, its content, what ends it. The one caller of `content`, so that the compiler needs no copy of the node for it.
@@ -332,19 +333,19 @@ pub fn line(
     deck: &[u8],
     pool: &[u8],
     out: &mut [u8],
-    settings: Settings,
+    terms: Terms,
     x: Spot,
     i: usize,
     manner: Manner,
     still: bool,
 ) -> Emitted
-    requires { ⌜ (Ready settings (now deck) (now pool) (pen w (now out)) (x .place) i) × Good (now deck) x × (countIn (x .body) < 65536) × HushedIn (now deck) (now pool) still x ⌝ }
-    ensures { λ r. ⌜ Emits settings (lineOf settings (on (fields w .flow)) (on (fields w .key)) manner i (nodeIn (now (deck .entry)) (now (pool .entry)) x)) (pen w (now (out .entry))) (pen (r .w) (now (out .exit))) (x .place) (endIn (now (deck .entry)) (now (pool .entry)) x) (r .next) (length (now (deck .entry))) ⌝ }
+    requires { ⌜ (Ready (settingsIn terms) (now deck) (now pool) (pen w (now out)) (x .place) i) × Good (now deck) x × (countIn (x .body) < 65536) × HushedIn (now deck) (now pool) still x ⌝ }
+    ensures { λ r. ⌜ Emits (settingsIn terms) (lineOf (settingsIn terms) (on (fields w .flow)) (on (fields w .key)) manner i (nodeIn (now (deck .entry)) (now (pool .entry)) x)) (pen w (now (out .entry))) (pen (r .w) (now (out .exit))) (x .place) (endIn (now (deck .entry)) (now (pool .entry)) x) (r .next) (length (now (deck .entry))) ⌝ }
 {
     let mark = w.key();
     let w1 = joints::put_dress(w, deck, pool, out, x, manner);
     let w2 = w1.with_key(joints::key_in(manner, mark));
-    let e = content(w2, deck, pool, out, settings, x, i, still);
+    let e = content(w2, deck, pool, out, terms, x, i, still);
     let next = e.next;
     let v = e.w.with_key(mark);
     let v1 = joints::put_ending(v, deck, pool, out, x, manner);
@@ -357,15 +358,15 @@ fn entry_node(
     deck: &[u8],
     pool: &[u8],
     out: &mut [u8],
-    settings: Settings,
+    terms: Terms,
     c: Cursor,
     i: usize,
     manner: Manner,
     still: bool,
 ) -> Emitted
-    requires { ⌜ (Ready settings (now deck) (now pool) (pen w (now out)) (c .at) i) × Hushed (now deck) (now pool) still 1 c ⌝ }
-    ensures { λ r. ⌜ Emits settings (lineOf settings (on (fields w .flow)) (on (fields w .key)) manner i (nodeAt (now (deck .entry)) (now (pool .entry)) c)) (pen w (now (out .entry))) (pen (r .w) (now (out .exit))) (c .at) (nextAt (now (deck .entry)) (now (pool .entry)) c) (r .next) (length (now (deck .entry))) ⌝ }
+    requires { ⌜ (Ready (settingsIn terms) (now deck) (now pool) (pen w (now out)) (c .at) i) × Hushed (now deck) (now pool) still 1 c ⌝ }
+    ensures { λ r. ⌜ Emits (settingsIn terms) (lineOf (settingsIn terms) (on (fields w .flow)) (on (fields w .key)) manner i (nodeAt (now (deck .entry)) (now (pool .entry)) c)) (pen w (now (out .entry))) (pen (r .w) (now (out .exit))) (c .at) (nextAt (now (deck .entry)) (now (pool .entry)) c) (r .next) (length (now (deck .entry))) ⌝ }
 {
     let x = spot::spot_at(deck, c);
-    line(w, deck, pool, out, settings, x, i, manner, still)
+    line(w, deck, pool, out, terms, x, i, manner, still)
 }

@@ -1,12 +1,12 @@
 // What stands around a node on its line, and between and around the entries of a flow collection.
 use comments::Entries;
 use definition::Cursor;
-use definition::Settings;
 use node::Lead;
 use node::Remark;
 use pen::Writer;
 use spot::Body;
 use spot::Spot;
+use terms::Terms;
 ghost use mathlib.Core.Path.{_≡_};
 ghost use Prim.Native.Nat.{_<_, _≤_, _^_};
 ghost use lib.ListN.{length};
@@ -14,6 +14,7 @@ ghost use Rattle.definition.specs.Base.{if_then_else_};
 ghost use Rattle.definition.specs.Ascii.{COMMA};
 ghost use Rattle.definition.specs.Pen.{comma, nothing, sign};
 ghost use Rattle.definition.specs.Walk.{props};
+ghost use Rattle.terms.specs.Terms.{settingsIn};
 ghost use Rattle.node.specs.Total.{keptOf, remarkOf};
 ghost use Rattle.pen.specs.Pen.{fields, pen, ink};
 ghost use Rattle.pen.specs.Draws.{Draws};
@@ -25,15 +26,15 @@ ghost use Rattle.joints.specs.Line.{rankOf, dressed, keyBy, ending};
 ghost use Rattle.joints.specs.Entries.{keyHeads, linedBefore, linedAfter, opening, closing};
 
 // `emit_flow_separator`, but before the first entry.
-pub fn put_between(w: Writer, out: &mut [u8], settings: Settings, first: bool, i: usize) -> Writer
+pub fn put_between(w: Writer, out: &mut [u8], terms: Terms, first: bool, i: usize) -> Writer
     requires { ⌜ (w .column < 2 ^ 63) × (length (now out) < 2 ^ 62) ⌝ }
-    ensures { λ r. ⌜ pen r (now (out .exit)) ≡ ink settings (if first then nothing else comma (on (fields w .key)) i) (pen w (now (out .entry))) ⌝ }
+    ensures { λ r. ⌜ pen r (now (out .exit)) ≡ ink (settingsIn terms) (if first then nothing else comma (on (fields w .key)) i) (pen w (now (out .entry))) ⌝ }
 {
     if first {
         return w;
     }
     let key = w.key() != 0;
-    scalar::put_separator(w, out, settings, key, i)
+    scalar::put_separator(w, out, terms, key, i)
 }
 
 // `end_inline_key`: an alias has a space before its colon.

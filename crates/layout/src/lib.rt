@@ -1,11 +1,11 @@
 // What stands on a line of block layout, but for the members of a block collection.
 use definition::Cursor;
-use definition::Settings;
 use flow::Emitted;
 use joints::Manner;
 use node::Lead;
 use pen::Writer;
 use spot::Spot;
+use terms::Terms;
 ghost use mathlib.Core.Path.{_≡_};
 ghost use Prim.Native.Nat.{_<_, _≤_, _^_, max};
 ghost use mathlib.Core.Bool.{false};
@@ -13,6 +13,7 @@ ghost use lib.ListN.{length};
 ghost use Rattle.definition.specs.Base.{if_then_else_};
 ghost use Rattle.definition.specs.Pen.{nothing, indent};
 ghost use Rattle.definition.specs.Walk.{belowIntroducer, content};
+ghost use Rattle.terms.specs.Terms.{settingsIn};
 ghost use Rattle.node.specs.Total.{keptOf, broughtOf};
 ghost use Rattle.pen.specs.Pen.{fields, pen};
 ghost use Rattle.pen.specs.Draws.{Draws};
@@ -30,12 +31,12 @@ pub fn put_include(
     deck: &[u8],
     pool: &[u8],
     out: &mut [u8],
-    settings: Settings,
+    terms: Terms,
     x: Spot,
     c: Cursor,
 ) -> Emitted
     requires { ⌜ (length (now out) ≤ 1048576) × (c .at ≤ length (now deck)) × (length (now deck) ≤ 65536) × (x .place < 2 ^ 62) ⌝ }
-    ensures { λ r. ⌜ Emits settings (includeAfter (x .place) (keptIn (now (deck .entry)) (now (pool .entry)) x)) (pen w (now (out .entry))) (pen (r .w) (now (out .exit))) (c .at) (nextAt (now (deck .entry)) (now (pool .entry)) c) (r .next) (length (now (deck .entry))) ⌝ }
+    ensures { λ r. ⌜ Emits (settingsIn terms) (includeAfter (x .place) (keptIn (now (deck .entry)) (now (pool .entry)) x)) (pen w (now (out .entry))) (pen (r .w) (now (out .exit))) (c .at) (nextAt (now (deck .entry)) (now (pool .entry)) c) (r .next) (length (now (deck .entry))) ⌝ }
 {
     let w1 = w.byte(out, b' ');
     let w2 = parts::put_include_line(w1, deck, pool, out, x.place, x.lead);
@@ -49,15 +50,15 @@ pub fn put_below(
     deck: &[u8],
     pool: &[u8],
     out: &mut [u8],
-    settings: Settings,
+    terms: Terms,
     x: Spot,
     i: usize,
 ) -> Emitted
-    requires { ⌜ (Ready settings (now deck) (now pool) (pen w (now out)) (x .place) i) × Good (now deck) x × (countIn (x .body) < 65536) × (fields w .flow ≡ 0) × (fields w .key ≡ 0) ⌝ }
-    ensures { λ r. ⌜ Emits settings (belowIntroducer (x .place) (keptIn (now (deck .entry)) (now (pool .entry)) x) (broughtIn (now (deck .entry)) (now (pool .entry)) x) i (content settings false false i (nodeIn (now (deck .entry)) (now (pool .entry)) x))) (pen w (now (out .entry))) (pen (r .w) (now (out .exit))) (x .place) (endIn (now (deck .entry)) (now (pool .entry)) x) (r .next) (length (now (deck .entry))) ⌝ }
+    requires { ⌜ (Ready (settingsIn terms) (now deck) (now pool) (pen w (now out)) (x .place) i) × Good (now deck) x × (countIn (x .body) < 65536) × (fields w .flow ≡ 0) × (fields w .key ≡ 0) ⌝ }
+    ensures { λ r. ⌜ Emits (settingsIn terms) (belowIntroducer (x .place) (keptIn (now (deck .entry)) (now (pool .entry)) x) (broughtIn (now (deck .entry)) (now (pool .entry)) x) i (content (settingsIn terms) false false i (nodeIn (now (deck .entry)) (now (pool .entry)) x))) (pen w (now (out .entry))) (pen (r .w) (now (out .exit))) (x .place) (endIn (now (deck .entry)) (now (pool .entry)) x) (r .next) (length (now (deck .entry))) ⌝ }
 {
     let w1 = parts::put_below(w, deck, pool, out, x.place, x.lead, i);
-    flow::line(w1, deck, pool, out, settings, x, i, Manner::Below, false)
+    flow::line(w1, deck, pool, out, terms, x, i, Manner::Below, false)
 }
 
 // The space between an introducer and its value. One space is a byte: most values have no other pad.
@@ -107,15 +108,15 @@ pub fn put_key_line(
     deck: &[u8],
     pool: &[u8],
     out: &mut [u8],
-    settings: Settings,
+    terms: Terms,
     x: Spot,
     i: usize,
 ) -> Emitted
-    requires { ⌜ (Ready settings (now deck) (now pool) (pen w (now out)) (x .place) i) × Good (now deck) x × (countIn (x .body) < 65536) × (fields w .flow ≡ 0) × (fields w .key ≡ 0) ⌝ }
-    ensures { λ r. ⌜ Emits settings (keyLine settings i (broughtIn (now (deck .entry)) (now (pool .entry)) x) (nodeIn (now (deck .entry)) (now (pool .entry)) x)) (pen w (now (out .entry))) (pen (r .w) (now (out .exit))) (x .place) (endIn (now (deck .entry)) (now (pool .entry)) x) (r .next) (length (now (deck .entry))) ⌝ }
+    requires { ⌜ (Ready (settingsIn terms) (now deck) (now pool) (pen w (now out)) (x .place) i) × Good (now deck) x × (countIn (x .body) < 65536) × (fields w .flow ≡ 0) × (fields w .key ≡ 0) ⌝ }
+    ensures { λ r. ⌜ Emits (settingsIn terms) (keyLine (settingsIn terms) i (broughtIn (now (deck .entry)) (now (pool .entry)) x) (nodeIn (now (deck .entry)) (now (pool .entry)) x)) (pen w (now (out .entry))) (pen (r .w) (now (out .exit))) (x .place) (endIn (now (deck .entry)) (now (pool .entry)) x) (r .next) (length (now (deck .entry))) ⌝ }
 {
     let w1 = w.byte(out, b' ');
-    flow::line(w1, deck, pool, out, settings, x, i, Manner::Asked, false)
+    flow::line(w1, deck, pool, out, terms, x, i, Manner::Asked, false)
 }
 
 // What stands before an item or a pair, unless its line is begun already.

@@ -8,6 +8,7 @@ use definition::Settings;
 use definition::Style;
 use pen::Writer;
 use quoted::Fold;
+use terms::Terms;
 
 // The numbers of a row. A style may be a marker, or the place of a first comment; an indent, the spaces before a comment; a width, the place of a
 // comment that follows.
@@ -37,8 +38,11 @@ fn numbers_of(row: &[u8]) -> Numbers
     }
 }
 
-fn settings(width: usize, single_quotes: bool) -> Settings {
-    Settings {
+// Plain settings but for the width and the quotes.
+fn terms(width: usize, single_quotes: bool) -> Terms
+    requires { ⌜ width < 65536 ⌝ }
+{
+    let settings = Settings {
         null_style: NullStyle::Null,
         indent_sequences: false,
         explicit_end: false,
@@ -46,14 +50,15 @@ fn settings(width: usize, single_quotes: bool) -> Settings {
         indentless: false,
         single_quotes,
         width,
-    }
+    };
+    terms::terms_of(settings)
 }
 
 // A writer in an empty output that stands at a column.
 fn fresh(column: usize) -> Writer
     ensures { λ r. ⌜ (r .column ≡ column) × (r .len ≡ 0) ⌝ }
 {
-    let mut w = pen::fresh_writer(settings(1, false));
+    let mut w = pen::fresh_writer(terms(1, false));
     w.column = column;
     w
 }
@@ -82,9 +87,9 @@ fn folded(w: Writer, out: &mut [u8], t: &[u8], n: Numbers) -> Writer
 
 // A scalar, in flow unless it stands at column 0; a block scalar's lines stand at column 2.
 fn scalar(w: Writer, out: &mut [u8], t: &[u8], n: Numbers) -> Writer
-    requires { ⌜ (length (now t) ≤ 65536) × (length (now out) < 2 ^ 62) × (w .column < 65536) ⌝ }
+    requires { ⌜ (length (now t) ≤ 65536) × (length (now out) < 2 ^ 62) × (w .column < 65536) × (n .width < 65536) ⌝ }
 {
-    let s = settings(n.width, n.indent > 0);
+    let s = terms(n.width, n.indent > 0);
     scalar::put_scalar(w, out, s, n.column > 0, n.mark, t, style_of(n.style), 2)
 }
 
@@ -103,14 +108,14 @@ fn line(w: Writer, out: &mut [u8], t: &[u8], n: Numbers) -> Writer
 
 // The first step.
 fn put(w: Writer, out: &mut [u8], t: &[u8], n: Numbers) -> Writer
-    requires { ⌜ (length (now t) ≤ 65536) × (length (now out) < 2 ^ 62) × (w .len ≡ 0) × (w .column ≡ n .column) × (n .style < 256) × (n .column < 65536) × (n .indent < 65536) ⌝ }
+    requires { ⌜ (length (now t) ≤ 65536) × (length (now out) < 2 ^ 62) × (w .len ≡ 0) × (w .column ≡ n .column) × (n .style < 256) × (n .column < 65536) × (n .indent < 65536) × (n .width < 65536) ⌝ }
 {
     let kind = n.kind;
     match kind {
         0 => quoted::put_body(w, out, t, n.mark),
         1 => folded(w, out, t, n),
         2 => scalar(w, out, t, n),
-        3 => scalar::put_separator(w, out, settings(n.width, false), n.mark, n.indent),
+        3 => scalar::put_separator(w, out, terms(n.width, false), n.mark, n.indent),
         _ => line(w, out, t, n),
     }
 }

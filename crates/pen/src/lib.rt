@@ -1,6 +1,6 @@
 // The pen: a writer by value over a lent slice. It stores only inside the room, and counts two past it at most, so that whether the
 // finished bytes fit is known also where the last line break is dropped again.
-use definition::Settings;
+use terms::Terms;
 ghost use mathlib.Core.Path.{_≡_};
 ghost use Prim.Native.Nat.{_+_, _-_, _/_, _%_, _<_, _≤_, _^_, min, max};
 ghost use mathlib.Core.List.{[]};
@@ -9,6 +9,7 @@ ghost use lib.Seq.{sets};
 ghost use lib.Dec.{eqb, leb};
 ghost use Rattle.definition.specs.Base.{if_then_else_, spaces};
 ghost use Rattle.definition.specs.Pen.{hashed, endsClosed};
+ghost use Rattle.terms.specs.Terms.{settingsIn};
 ghost use Rattle.pen.specs.Pen.{fields, pen, put1, puts, columnAfter, columnOver, lineEnded, withFlow, withKey, noted, rawed, unput, ended};
 ghost use Rattle.pen.specs.Shown.{keeps, begun};
 
@@ -169,8 +170,8 @@ fn first_mode(width: usize) -> usize
 }
 
 // A writer that has written nothing.
-pub fn fresh_writer(settings: Settings) -> Writer
-    ensures { λ r. ⌜ fields r ≡ begun settings ⌝ }
+pub fn fresh_writer(terms: Terms) -> Writer
+    ensures { λ r. ⌜ fields r ≡ begun (settingsIn terms) ⌝ }
 {
     Writer {
         len: 0,
@@ -178,7 +179,7 @@ pub fn fresh_writer(settings: Settings) -> Writer
         edge: 0,
         inline: 0,
         column: 0,
-        mode: first_mode(settings.width),
+        mode: first_mode(terms.width()),
     }
 }
 

@@ -9,8 +9,8 @@ ghost use Rattle.definition.specs.Settings.{folds};
 ghost use Rattle.laws.specs.Pieces.{quoteBy, body};
 ghost use Rattle.laws.specs.Folded.{aheadOf, foldedOf};
 ghost use Rattle.laws.specs.Leaf.{quotedAt, foldedAt, styledAt};
+ghost use Rattle.terms.specs.Terms.{settingsIn};
 ghost use Rattle.quoted.specs.Turns.{Further, Measured, Passing, Onward, folding};
-use definition::Settings;
 use pen::Writer;
 use pieces::columns;
 use pieces::others;
@@ -19,6 +19,7 @@ use pieces::put_piece;
 use pieces::put_single;
 use pieces::quote_of;
 use pieces::run_end;
+use terms::Terms;
 
 pub struct Fold {
     pub indent: usize,
@@ -260,13 +261,13 @@ pub fn put_folded(
 }
 
 // Whether lines are folded: outside keys, where a width is set.
-pub fn will_fold(settings: Settings, key: bool) -> bool
-    ensures { λ r. ⌜ r ≡ folds settings key ⌝ }
+pub fn will_fold(terms: Terms, key: bool) -> bool
+    ensures { λ r. ⌜ r ≡ folds (settingsIn terms) key ⌝ }
 {
     if key {
         return false;
     }
-    settings.width > 0
+    terms.width() > 0
 }
 
 // A text in quotes, not folded.
@@ -281,20 +282,14 @@ fn put_quoted(w: Writer, out: &mut [u8], t: &[u8], single: bool) -> Writer
 }
 
 // A text in quotes, folded: continued lines stand at the quote's column, but never at 0.
-fn put_quoted_folded(
-    w: Writer,
-    out: &mut [u8],
-    settings: Settings,
-    t: &[u8],
-    single: bool,
-) -> Writer
+fn put_quoted_folded(w: Writer, out: &mut [u8], terms: Terms, t: &[u8], single: bool) -> Writer
     requires { ⌜ (length (now t) ≤ 65536) × (w .column < 2 ^ 63) × (length (now out) < 2 ^ 62) ⌝ }
-    ensures { λ r. ⌜ pen r (now (out .exit)) ≡ puts (foldedAt settings single (now (t .entry)) (w .column)) (pen w (now (out .entry))) ⌝ }
+    ensures { λ r. ⌜ pen r (now (out .exit)) ≡ puts (foldedAt (settingsIn terms) single (now (t .entry)) (w .column)) (pen w (now (out .entry))) ⌝ }
 {
     let column = w.column;
     let f = Fold {
         indent: pen::at_least_one(column),
-        width: settings.width,
+        width: terms.width(),
     };
     let q = quote_of(single);
     let w = w.byte(out, q);
@@ -306,16 +301,16 @@ fn put_quoted_folded(
 pub fn put_styled(
     w: Writer,
     out: &mut [u8],
-    settings: Settings,
+    terms: Terms,
     key: bool,
     single: bool,
     t: &[u8],
 ) -> Writer
     requires { ⌜ (length (now t) ≤ 65536) × (w .column < 2 ^ 63) × (length (now out) < 2 ^ 62) ⌝ }
-    ensures { λ r. ⌜ pen r (now (out .exit)) ≡ puts (styledAt settings key single (now (t .entry)) (w .column)) (pen w (now (out .entry))) ⌝ }
+    ensures { λ r. ⌜ pen r (now (out .exit)) ≡ puts (styledAt (settingsIn terms) key single (now (t .entry)) (w .column)) (pen w (now (out .entry))) ⌝ }
 {
-    if will_fold(settings, key) {
-        return put_quoted_folded(w, out, settings, t, single);
+    if will_fold(terms, key) {
+        return put_quoted_folded(w, out, terms, t, single);
     }
     put_quoted(w, out, t, single)
 }

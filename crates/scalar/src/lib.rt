@@ -11,11 +11,11 @@ ghost use Rattle.definition.specs.Block.{blockHeader, blockBody};
 ghost use Rattle.definition.specs.Settings.{weightOf, folds};
 ghost use Rattle.definition.specs.Scalar.{startsBom, unsafeInFlow, mustQuote, separator};
 ghost use Rattle.laws.specs.Leaf.{quotableAt, quotedAt, styledAt, ownAt, scalarBytes};
+ghost use Rattle.terms.specs.Terms.{settingsIn};
 ghost use Rattle.pen.specs.Pen.{pen, puts};
 ghost use Rattle.scalar.specs.Tests.{refusedAt, flowMark, unsafeAt};
 use blocks::put_block_body;
 use blocks::put_header;
-use definition::Settings;
 use definition::Style;
 use pen::Writer;
 use pen::at_least_one;
@@ -25,6 +25,7 @@ use pieces::is_non;
 use quoted::has_breakable;
 use quoted::put_styled;
 use quoted::will_fold;
+use terms::Terms;
 
 // The text starts with U+FEFF.
 pub fn starts_bom(t: &[u8]) -> bool
@@ -133,23 +134,23 @@ fn unsafe_here(flow: bool, t: &[u8]) -> bool
 }
 
 // The text passes the width, and can be folded.
-fn too_long(settings: Settings, key: bool, t: &[u8], column: usize) -> bool
+fn too_long(terms: Terms, key: bool, t: &[u8], column: usize) -> bool
     requires { ⌜ (length (now t) ≤ 65536) × (column < 2 ^ 63) ⌝ }
-    ensures { λ r. ⌜ r ≡ (folds settings key && ltb (settings .width) (column + size (weightOf settings) (now (t .entry))) && hasBreakable (now (t .entry))) ⌝ }
+    ensures { λ r. ⌜ r ≡ (folds (settingsIn terms) key && ltb (settingsIn terms .width) (column + size (weightOf (settingsIn terms)) (now (t .entry))) && hasBreakable (now (t .entry))) ⌝ }
 {
-    if !will_fold(settings, key) {
+    if !will_fold(terms, key) {
         return false;
     }
-    if column + t.len() <= settings.width {
+    if column + t.len() <= terms.width() {
         return false;
     }
     has_breakable(t)
 }
 
 // A plain scalar is quoted.
-fn must_quote(settings: Settings, flow: bool, key: bool, t: &[u8], column: usize) -> bool
+fn must_quote(terms: Terms, flow: bool, key: bool, t: &[u8], column: usize) -> bool
     requires { ⌜ (length (now t) ≤ 65536) × (column < 2 ^ 63) ⌝ }
-    ensures { λ r. ⌜ r ≡ mustQuote settings flow key (now (t .entry)) column ⌝ }
+    ensures { λ r. ⌜ r ≡ mustQuote (settingsIn terms) flow key (now (t .entry)) column ⌝ }
 {
     if starts_bom(t) {
         return true;
@@ -157,61 +158,47 @@ fn must_quote(settings: Settings, flow: bool, key: bool, t: &[u8], column: usize
     if unsafe_here(flow, t) {
         return true;
     }
-    too_long(settings, key, t, column)
+    too_long(terms, key, t, column)
 }
 
 // Single quotes are asked for, and take the text as it is.
-fn prefers_single(settings: Settings, t: &[u8]) -> bool
+fn prefers_single(terms: Terms, t: &[u8]) -> bool
     requires { ⌜ length (now t) ≤ 65536 ⌝ }
-    ensures { λ r. ⌜ r ≡ (settings .«single_quotes» && quotableAt (now (t .entry))) ⌝ }
+    ensures { λ r. ⌜ r ≡ (settingsIn terms .«single_quotes» && quotableAt (now (t .entry))) ⌝ }
 {
-    if settings.single_quotes {
+    if terms.quotes_singly() {
         return quotable(t);
     }
     false
 }
 
 // A text in quotes. Here and in `put_lined` the writer is handed on made anew: so it need not be in memory where a plain text is written.
-fn put_quotes(
-    w: Writer,
-    out: &mut [u8],
-    settings: Settings,
-    key: bool,
-    single: bool,
-    t: &[u8],
-) -> Writer
+fn put_quotes(w: Writer, out: &mut [u8], terms: Terms, key: bool, single: bool, t: &[u8]) -> Writer
     requires { ⌜ (length (now t) ≤ 65536) × (w .column < 2 ^ 63) × (length (now out) < 2 ^ 62) ⌝ }
-    ensures { λ r. ⌜ pen r (now (out .exit)) ≡ puts (styledAt settings key single (now (t .entry)) (w .column)) (pen w (now (out .entry))) ⌝ }
+    ensures { λ r. ⌜ pen r (now (out .exit)) ≡ puts (styledAt (settingsIn terms) key single (now (t .entry)) (w .column)) (pen w (now (out .entry))) ⌝ }
 {
     let u = w.anew();
-    put_styled(u, out, settings, key, single, t)
+    put_styled(u, out, terms, key, single, t)
 }
 
 // A text that has no quotes of its own, quoted as the settings ask.
-fn put_own(w: Writer, out: &mut [u8], settings: Settings, key: bool, t: &[u8]) -> Writer
+fn put_own(w: Writer, out: &mut [u8], terms: Terms, key: bool, t: &[u8]) -> Writer
     requires { ⌜ (length (now t) ≤ 65536) × (w .column < 2 ^ 63) × (length (now out) < 2 ^ 62) ⌝ }
-    ensures { λ r. ⌜ pen r (now (out .exit)) ≡ puts (ownAt settings key (now (t .entry)) (w .column)) (pen w (now (out .entry))) ⌝ }
+    ensures { λ r. ⌜ pen r (now (out .exit)) ≡ puts (ownAt (settingsIn terms) key (now (t .entry)) (w .column)) (pen w (now (out .entry))) ⌝ }
 {
-    let single = prefers_single(settings, t);
-    put_quotes(w, out, settings, key, single, t)
+    let single = prefers_single(terms, t);
+    put_quotes(w, out, terms, key, single, t)
 }
 
 // A plain scalar: as it is, unless it must be quoted.
-fn put_plain(
-    w: Writer,
-    out: &mut [u8],
-    settings: Settings,
-    flow: bool,
-    key: bool,
-    t: &[u8],
-) -> Writer
+fn put_plain(w: Writer, out: &mut [u8], terms: Terms, flow: bool, key: bool, t: &[u8]) -> Writer
     requires { ⌜ (length (now t) ≤ 65536) × (w .column < 2 ^ 63) × (length (now out) < 2 ^ 62) ⌝ }
     ensures { λ r. ⌜ pen r (now (out .exit)) ≡ puts
-        (if mustQuote settings flow key (now (t .entry)) (w .column) then ownAt settings key (now (t .entry)) (w .column) else now (t .entry))
+        (if mustQuote (settingsIn terms) flow key (now (t .entry)) (w .column) then ownAt (settingsIn terms) key (now (t .entry)) (w .column) else now (t .entry))
         (pen w (now (out .entry))) ⌝ }
 {
-    if must_quote(settings, flow, key, t, w.column) {
-        return put_own(w, out, settings, key, t);
+    if must_quote(terms, flow, key, t, w.column) {
+        return put_own(w, out, terms, key, t);
     }
     w.text(out, t)
 }
@@ -220,7 +207,7 @@ fn put_plain(
 fn put_block(
     w: Writer,
     out: &mut [u8],
-    settings: Settings,
+    terms: Terms,
     flow: bool,
     t: &[u8],
     marker: u8,
@@ -232,7 +219,7 @@ fn put_block(
         (pen w (now (out .entry))) ⌝ }
 {
     if flow {
-        return put_styled(w, out, settings, true, false, t);
+        return put_styled(w, out, terms, true, false, t);
     }
     let w = put_header(w, out, t, marker);
     put_block_body(w, out, t, indent)
@@ -241,7 +228,7 @@ fn put_block(
 fn put_lined(
     w: Writer,
     out: &mut [u8],
-    settings: Settings,
+    terms: Terms,
     flow: bool,
     t: &[u8],
     marker: u8,
@@ -253,14 +240,14 @@ fn put_lined(
         (pen w (now (out .entry))) ⌝ }
 {
     let u = w.anew();
-    put_block(u, out, settings, flow, t, marker, indent)
+    put_block(u, out, terms, flow, t, marker, indent)
 }
 
 // A scalar, in flow or not, in a key or not; `indent` is the column of a block scalar's lines.
 pub fn put_scalar(
     w: Writer,
     out: &mut [u8],
-    settings: Settings,
+    terms: Terms,
     flow: bool,
     key: bool,
     t: &[u8],
@@ -268,40 +255,34 @@ pub fn put_scalar(
     indent: usize,
 ) -> Writer
     requires { ⌜ (length (now t) ≤ 65536) × (w .column < 2 ^ 63) × (length (now out) < 2 ^ 62) ⌝ }
-    ensures { λ r. ⌜ pen r (now (out .exit)) ≡ puts (scalarBytes settings flow key (now (t .entry)) style indent (w .column)) (pen w (now (out .entry))) ⌝ }
+    ensures { λ r. ⌜ pen r (now (out .exit)) ≡ puts (scalarBytes (settingsIn terms) flow key (now (t .entry)) style indent (w .column)) (pen w (now (out .entry))) ⌝ }
 {
     match style {
-        Style::Plain => put_plain(w, out, settings, flow, key, t),
-        Style::Single => put_quotes(w, out, settings, key, true, t),
-        Style::Double => put_quotes(w, out, settings, key, false, t),
-        Style::Literal => put_lined(w, out, settings, flow, t, b'|', indent),
-        Style::Folded => put_lined(w, out, settings, flow, t, b'>', indent),
+        Style::Plain => put_plain(w, out, terms, flow, key, t),
+        Style::Single => put_quotes(w, out, terms, key, true, t),
+        Style::Double => put_quotes(w, out, terms, key, false, t),
+        Style::Literal => put_lined(w, out, terms, flow, t, b'|', indent),
+        Style::Folded => put_lined(w, out, terms, flow, t, b'>', indent),
     }
 }
 
 // A comma would bring the line to the width.
-fn line_full(settings: Settings, key: bool, column: usize) -> bool
+fn line_full(terms: Terms, key: bool, column: usize) -> bool
     requires { ⌜ column < 2 ^ 63 ⌝ }
-    ensures { λ r. ⌜ r ≡ (folds settings key && leb (settings .width) (column + 1)) ⌝ }
+    ensures { λ r. ⌜ r ≡ (folds (settingsIn terms) key && leb (settingsIn terms .width) (column + 1)) ⌝ }
 {
-    if will_fold(settings, key) {
-        return settings.width <= column + 1;
+    if will_fold(terms, key) {
+        return terms.width() <= column + 1;
     }
     false
 }
 
 // The comma between two flow entries, and a space, or a line break and an indent where the line is full.
-pub fn put_separator(
-    w: Writer,
-    out: &mut [u8],
-    settings: Settings,
-    key: bool,
-    indent: usize,
-) -> Writer
+pub fn put_separator(w: Writer, out: &mut [u8], terms: Terms, key: bool, indent: usize) -> Writer
     requires { ⌜ (w .column < 2 ^ 63) × (length (now out) < 2 ^ 62) ⌝ }
-    ensures { λ r. ⌜ pen r (now (out .exit)) ≡ puts (separator settings key indent (w .column)) (pen w (now (out .entry))) ⌝ }
+    ensures { λ r. ⌜ pen r (now (out .exit)) ≡ puts (separator (settingsIn terms) key indent (w .column)) (pen w (now (out .entry))) ⌝ }
 {
-    let full = line_full(settings, key, w.column);
+    let full = line_full(terms, key, w.column);
     let w = w.byte(out, b',');
     if full {
         let w = w.byte(out, b'\n');

@@ -7,9 +7,12 @@ use definition::Cursor;
 use definition::Settings;
 use judge::Verdict;
 use pen::Writer;
+use terms::Terms;
+use terms::terms_of;
 ghost use mathlib.Core.Path.{_≡_};
 ghost use mathlib.Core.List.{[]};
 ghost use mathlib.Core.Bool.{true, false};
+ghost use Rattle.terms.specs.Terms.{settingsIn};
 ghost use Rattle.pen.specs.Pen.{pen};
 ghost use Rattle.agree.specs.Accepted.{Accepted};
 ghost use Rattle.told.specs.Outcome.{Settled, Small, lent};
@@ -34,28 +37,22 @@ fn settle(w: Writer, out: &mut [u8]) -> Answer
     }
 }
 
-fn emit_one(deck: &[u8], pool: &[u8], out: &mut [u8], settings: Settings) -> Answer
-    requires { ⌜ Settled settings × Small (lent (now deck) (now pool) (now out)) × Accepted (now deck) (now pool) 1 ⌝ }
-    ensures { λ r. ⌜ outcomeOf r (now (out .exit)) [] ≡ written settings false (lent (now (deck .entry)) (now (pool .entry)) (now (out .entry))) ⌝ }
+fn emit_one(deck: &[u8], pool: &[u8], out: &mut [u8], terms: Terms) -> Answer
+    requires { ⌜ Settled (settingsIn terms) × Small (lent (now deck) (now pool) (now out)) × Accepted (now deck) (now pool) 1 ⌝ }
+    ensures { λ r. ⌜ outcomeOf r (now (out .exit)) [] ≡ written (settingsIn terms) false (lent (now (deck .entry)) (now (pool .entry)) (now (out .entry))) ⌝ }
 {
-    let w = pen::fresh_writer(settings);
+    let w = pen::fresh_writer(terms);
     let c = Cursor { at: 0 };
-    let v = document::write_one(w, deck, pool, out, settings, c, false);
+    let v = document::write_one(w, deck, pool, out, terms, c, false);
     settle(v, out)
 }
 
-fn emit_all(
-    deck: &[u8],
-    pool: &[u8],
-    out: &mut [u8],
-    settings: Settings,
-    documents: usize,
-) -> Answer
-    requires { ⌜ Settled settings × Small (lent (now deck) (now pool) (now out)) × Accepted (now deck) (now pool) documents ⌝ }
-    ensures { λ r. ⌜ outcomeOf r (now (out .exit)) [] ≡ written settings true (lent (now (deck .entry)) (now (pool .entry)) (now (out .entry))) ⌝ }
+fn emit_all(deck: &[u8], pool: &[u8], out: &mut [u8], terms: Terms, documents: usize) -> Answer
+    requires { ⌜ Settled (settingsIn terms) × Small (lent (now deck) (now pool) (now out)) × Accepted (now deck) (now pool) documents ⌝ }
+    ensures { λ r. ⌜ outcomeOf r (now (out .exit)) [] ≡ written (settingsIn terms) true (lent (now (deck .entry)) (now (pool .entry)) (now (out .entry))) ⌝ }
 {
-    let w = pen::fresh_writer(settings);
-    let v = document::write_all(w, deck, pool, out, settings);
+    let w = pen::fresh_writer(terms);
+    let v = document::write_all(w, deck, pool, out, terms);
     settle(v, out)
 }
 
@@ -64,20 +61,20 @@ fn emit(
     deck: &[u8],
     pool: &[u8],
     out: &mut [u8],
-    settings: Settings,
+    terms: Terms,
     all: bool,
     documents: usize,
 ) -> Answer
-    requires { ⌜ Settled settings × Small (lent (now deck) (now pool) (now out)) × Accepted (now deck) (now pool) documents ⌝ }
-    ensures { λ r. ⌜ outcomeOf r (now (out .exit)) [] ≡ written settings all (lent (now (deck .entry)) (now (pool .entry)) (now (out .entry))) ⌝ }
+    requires { ⌜ Settled (settingsIn terms) × Small (lent (now deck) (now pool) (now out)) × Accepted (now deck) (now pool) documents ⌝ }
+    ensures { λ r. ⌜ outcomeOf r (now (out .exit)) [] ≡ written (settingsIn terms) all (lent (now (deck .entry)) (now (pool .entry)) (now (out .entry))) ⌝ }
 {
     if all {
-        return emit_all(deck, pool, out, settings, documents);
+        return emit_all(deck, pool, out, terms, documents);
     }
     if documents != 1 {
         return refuse(8, 0);
     }
-    emit_one(deck, pool, out, settings)
+    emit_one(deck, pool, out, terms)
 }
 
 // All documents of a deck, or the one that it holds: the limits, the judge, the emission.
@@ -86,7 +83,7 @@ pub fn write(deck: &[u8], pool: &[u8], out: &mut [u8], settings: Settings, all: 
 {
     let verdict = admit(deck, pool, out.len(), 0, settings);
     match verdict {
-        Verdict::Good { documents } => emit(deck, pool, out, settings, all, documents),
+        Verdict::Good { documents } => emit(deck, pool, out, terms_of(settings), all, documents),
         Verdict::Refused { number, place } => refuse(number, place),
     }
 }

@@ -1,16 +1,17 @@
 -- `document::put_documents` meets its contract.
 use native.Mathlib.Omega.{arith}
 use borrow.Author.Needs.{needs}
+use Rattle.terms.specs.Terms.{settingsIn}
 use Rattle.pen.specs.Pen.{pen}
 use Rattle.document.proofs.Laws.{Pending, file-start, file-turn, file-end}
 use Rattle.document.proofs.put_documents.Statement.{statement}
 use Rattle.document.proofs.put_documents.Tie as tie
 
 abbrev Inv-loop : tie.InvT-loop
-Inv-loop deck pool out₀ settings passed n v₀ here₀ left₀ first₀ out v here left first = Pending settings deck pool passed (pen v₀ out₀) left₀ here₀ (pen v out) first left here
+Inv-loop deck pool out₀ terms passed n v₀ here₀ left₀ first₀ out v here left first = Pending (settingsIn terms) deck pool passed (pen v₀ out₀) left₀ here₀ (pen v out) first left here
 
 abbrev μ-loop : tie.MeasureT-loop
-μ-loop deck pool out₀ settings passed n v₀ here₀ left₀ first₀ out v here left first = left
+μ-loop deck pool out₀ terms passed n v₀ here₀ left₀ first₀ out v here left first = left
 
 loop-holds : tie.Need-loop-holds Inv-loop μ-loop
 loop-holds c = file-start _ _ _ _ _ _ _ (c .before .before .before .pre)

@@ -9,6 +9,9 @@ use Rattle.quoted.proofs.put_quoted_folded.Tie as tie
 at-least-one-requires : tie.Need-at-least-one-requires
 at-least-one-requires c κs = tt
 
+width-requires : tie.Need-width-requires
+width-requires c κs = search needs
+
 quote-of-requires : tie.Need-quote-of-requires
 quote-of-requires c κs = tt
 
@@ -29,13 +32,14 @@ same-length c = search needs
 
 returns : tie.Need-returns
 unfolding foldedAt weightOf
-returns c = rw (← (c .before .before .before .before .before .before .before .before .before .before .before .before .quote-of .ensures), ← (c .before .before .before .before .before .before .before .before .before .before .before .before .before .at-least-one .ensures)) (around _ _ _ _ _ _ (c .before .before .before .before .before .before .before .before .before .before .byte .ensures) (c .before .before .before .before .before .before .put-folded .ensures) (c .before .before .byte2 .ensures))
+returns c = rw (← c .before .before .before .before .before .before .before .before .before .before .before .before .before .width .ensures, ← (c .before .before .before .before .before .before .before .before .before .before .before .before .quote-of .ensures), ← c .before .before .before .before .before .before .before .before .before .before .before .before .before .before .at-least-one .ensures) (around _ _ _ _ _ _ (c .before .before .before .before .before .before .before .before .before .before .byte .ensures) (c .before .before .before .before .before .before .put-folded .ensures) (c .before .before .byte2 .ensures))
 
 pub put-quoted-folded-spec : {M : Type 1} → statement M
 put-quoted-folded-spec =
     tie.close
     (tie.spec
     at-least-one-requires
+    width-requires
     quote-of-requires
     byte-requires
     add-put-folded

@@ -14,16 +14,19 @@ returns c = rw (← (c .before .will-fold .ensures), not-true (c .before .will-f
 add-if2 : tie.Need-add-if2
 add-if2 c = search needs
 
+width-requires : tie.Need-width-requires
+width-requires c κs = search needs
+
 returns-2 : tie.Need-returns-2
-returns-2 c = rw (← (c .before .before .before .will-fold .ensures), not-false (c .before .before .before .will-fold .result) (c .before .before .if1 .left), size-length, le-ltb _ _ (c .if2 .taken))
+returns-2 c = rw (← c .before .before .before .will-fold .ensures, not-false (c .before .before .before .will-fold .result) (c .before .before .if1 .left), size-length, ← c .before .width .ensures, le-ltb _ _ (c .if2 .taken))
 
 has-breakable-requires : tie.Need-has-breakable-requires
 has-breakable-requires c κs = tt
 
 returns-3 : tie.Need-returns-3
-returns-3 c = rw (← (c .before .before .before .before .will-fold .ensures), not-false (c .before .before .before .before .will-fold .result) (c .before .before .before .if1 .left), size-length, lt-ltb _ _ (c .before .if2 .left)) (c .has-breakable .ensures)
+returns-3 c = rw (← c .before .before .before .before .will-fold .ensures, not-false (c .before .before .before .before .will-fold .result) (c .before .before .before .if1 .left), size-length, ← c .before .before .width .ensures, lt-ltb _ _ (c .before .if2 .left)) (c .has-breakable .ensures)
 
 pub too-long-spec : {M : Type 1} → statement M
 too-long-spec =
     tie.close
-    (tie.spec will-fold-requires returns add-if2 returns-2 has-breakable-requires returns-3)
+    (tie.spec will-fold-requires returns add-if2 width-requires returns-2 has-breakable-requires returns-3)

@@ -1,4 +1,5 @@
 use native.Mathlib.Omega.{arith}
+use Rattle.terms.specs.Terms.{settingsIn}
 use Rattle.pen.specs.Pen.{pen}
 use Rattle.block.proofs.Laws.{Rowing, start, step, stop}
 use borrow.Author.Needs.{needs}
@@ -8,10 +9,10 @@ use Rattle.block.proofs.+put_dash+put_dashed+put_key+put_members+put_qu
 use Rattle.block.proofs.+put_dash+put_dashed+put_key+put_members+put_question+put_row+put_rows+put_under+put_value.Proof.Base.{put-rows-at, put-rows-claims}
 
 abbrev pub put-rows-Inv-loop : put-rows-lts.InvT-loop
-put-rows-Inv-loop deck pool out₀ settings pairs n i begin v₀ here₀ left₀ lead₀ first₀ out v here left lead first = Rowing settings deck pool i pairs (pen v₀ out₀) lead₀ first₀ left₀ here₀ (pen v out) lead first left here
+put-rows-Inv-loop deck pool out₀ terms pairs n i begin v₀ here₀ left₀ lead₀ first₀ out v here left lead first = Rowing (settingsIn terms) deck pool i pairs (pen v₀ out₀) lead₀ first₀ left₀ here₀ (pen v out) lead first left here
 
 abbrev pub put-rows-μ-loop : put-rows-lts.MeasureT-loop
-put-rows-μ-loop deck pool out₀ settings pairs n i begin v₀ here₀ left₀ lead₀ first₀ out v here left lead first = left
+put-rows-μ-loop deck pool out₀ terms pairs n i begin v₀ here₀ left₀ lead₀ first₀ out v here left lead first = left
 
 pub put-rows-loop-holds : (t : ℕ) → put-rows-lts.Need-loop-holds (put-rows-claims t) (put-rows-at t) put-rows.Post put-rows-Inv-loop put-rows-μ-loop
 put-rows-loop-holds t c = start _ _ _ _ _ _ _ _ _ _ ((c .before .before .before .pre) .1)

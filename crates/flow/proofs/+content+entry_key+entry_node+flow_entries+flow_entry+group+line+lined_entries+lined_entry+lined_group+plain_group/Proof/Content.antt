@@ -1,4 +1,5 @@
 use native.Mathlib.Omega.{arith}
+use Rattle.terms.specs.Terms.{settingsIn}
 use Rattle.flow.proofs.Laws.{content-null, content-words, content-alias, content-items, content-pairs, items-deeper, pairs-deeper, few-items, few-pairs, group-in, deeper-is, depth-small}
 use Rattle.flow.proofs.Hushes.{hushed-items, hushed-pairs}
 use borrow.Author.Needs.{needs}
@@ -41,7 +42,7 @@ pub content-with-flow-requires : (t : ℕ) → content-lts.Need-with-flow-requir
 content-with-flow-requires t c κs = depth-small _ _ _ _ _ _ (c .flow .ensures) (c .before .before .before .before .before .before .before .before .pre .1 .0)
 
 pub content-group-requires : (t : ℕ) → content-lts.Need-group-requires (content-claims t) (content-at t) content.Post
-content-group-requires t c κs = let q = c .before .before .before .before .before .before .before .before .before .before .pre .0 in let r = c .before .before .before .before .before .before .before .before .before .before .pre .1 .0 in let g = c .before .before .before .before .before .before .before .before .before .before .pre .1 .1 in let l = items-deeper (c .before .before .before .before .before .before .before .before .before .before .args .settings) _ (c .before .before .before .before .before .before .before .before .before .before .args .pool .now) (c .before .before .before .before .before .before .before .before .before .before .args .x) _ g (c .before .before .before .before .body3 .given .1) in (omega (arith, q, l, g .within), (group-in _ _ _ _ _ _ _ _ _ _ (c .before .before .flow .ensures) (c .before .with-flow .ensures) r l (g .within), few-items (c .before .before .before .before .before .before .before .before .before .before .args .x) _ (c .before .before .before .before .before .before .before .before .before .before .pre .1 .2) (c .before .before .before .before .body3 .given .1), hushed-items _ _ _ (c .before .before .before .before .before .before .before .before .before .before .args .x) _ (c .before .before .before .before .body3 .given .1) (c .before .before .before .before .before .before .before .before .before .before .pre .1 .3)))
+content-group-requires t c κs = let q = c .before .before .before .before .before .before .before .before .before .before .pre .0 in let r = c .before .before .before .before .before .before .before .before .before .before .pre .1 .0 in let g = c .before .before .before .before .before .before .before .before .before .before .pre .1 .1 in let l = items-deeper (settingsIn (c .before .before .before .before .before .before .before .before .before .before .args .terms)) _ (c .before .before .before .before .before .before .before .before .before .before .args .pool .now) (c .before .before .before .before .before .before .before .before .before .before .args .x) _ g (c .before .before .before .before .body3 .given .1) in (omega (arith, q, l, g .within), (group-in _ _ _ _ _ _ _ _ _ _ (c .before .before .flow .ensures) (c .before .with-flow .ensures) r l (g .within), few-items (c .before .before .before .before .before .before .before .before .before .before .args .x) _ (c .before .before .before .before .before .before .before .before .before .before .pre .1 .2) (c .before .before .before .before .body3 .given .1), hushed-items _ _ _ (c .before .before .before .before .before .before .before .before .before .before .args .x) _ (c .before .before .before .before .body3 .given .1) (c .before .before .before .before .before .before .before .before .before .before .pre .1 .3)))
 
 pub content-back-requires : (t : ℕ) → content-lts.Need-back-requires (content-claims t) (content-at t) content.Post
 content-back-requires t c κs = let h = depth-small _ _ _ _ _ _ (c .before .before .before .before .before .flow .ensures) (c .before .before .before .before .before .before .before .before .before .before .before .before .before .pre .1 .0) in omega (arith, h)
@@ -59,7 +60,7 @@ pub content-with-flow-requires-2 : (t : ℕ) → content-lts.Need-with-flow-requ
 content-with-flow-requires-2 t c κs = depth-small _ _ _ _ _ _ (c .flow2 .ensures) (c .before .before .before .before .before .before .before .before .pre .1 .0)
 
 pub content-group-requires-2 : (t : ℕ) → content-lts.Need-group-requires-2 (content-claims t) (content-at t) content.Post
-content-group-requires-2 t c κs = let q = c .before .before .before .before .before .before .before .before .before .before .pre .0 in let r = c .before .before .before .before .before .before .before .before .before .before .pre .1 .0 in let g = c .before .before .before .before .before .before .before .before .before .before .pre .1 .1 in let l = pairs-deeper (c .before .before .before .before .before .before .before .before .before .before .args .settings) _ (c .before .before .before .before .before .before .before .before .before .before .args .pool .now) (c .before .before .before .before .before .before .before .before .before .before .args .x) _ g (c .before .before .before .before .body4 .given .1) in (omega (arith, q, l, g .within), (group-in _ _ _ _ _ _ _ _ _ _ (c .before .before .flow2 .ensures) (c .before .with-flow2 .ensures) r l (g .within), few-pairs (c .before .before .before .before .before .before .before .before .before .before .args .x) _ (c .before .before .before .before .before .before .before .before .before .before .pre .1 .2) (c .before .before .before .before .body4 .given .1), hushed-pairs _ _ _ (c .before .before .before .before .before .before .before .before .before .before .args .x) _ (c .before .before .before .before .body4 .given .1) (c .before .before .before .before .before .before .before .before .before .before .pre .1 .3)))
+content-group-requires-2 t c κs = let q = c .before .before .before .before .before .before .before .before .before .before .pre .0 in let r = c .before .before .before .before .before .before .before .before .before .before .pre .1 .0 in let g = c .before .before .before .before .before .before .before .before .before .before .pre .1 .1 in let l = pairs-deeper (settingsIn (c .before .before .before .before .before .before .before .before .before .before .args .terms)) _ (c .before .before .before .before .before .before .before .before .before .before .args .pool .now) (c .before .before .before .before .before .before .before .before .before .before .args .x) _ g (c .before .before .before .before .body4 .given .1) in (omega (arith, q, l, g .within), (group-in _ _ _ _ _ _ _ _ _ _ (c .before .before .flow2 .ensures) (c .before .with-flow2 .ensures) r l (g .within), few-pairs (c .before .before .before .before .before .before .before .before .before .before .args .x) _ (c .before .before .before .before .before .before .before .before .before .before .pre .1 .2) (c .before .before .before .before .body4 .given .1), hushed-pairs _ _ _ (c .before .before .before .before .before .before .before .before .before .before .args .x) _ (c .before .before .before .before .body4 .given .1) (c .before .before .before .before .before .before .before .before .before .before .pre .1 .3)))
 
 pub content-back-requires-2 : (t : ℕ) → content-lts.Need-back-requires-2 (content-claims t) (content-at t) content.Post
 content-back-requires-2 t c κs = let h = depth-small _ _ _ _ _ _ (c .before .before .before .before .before .flow2 .ensures) (c .before .before .before .before .before .before .before .before .before .before .before .before .before .pre .1 .0) in omega (arith, h)

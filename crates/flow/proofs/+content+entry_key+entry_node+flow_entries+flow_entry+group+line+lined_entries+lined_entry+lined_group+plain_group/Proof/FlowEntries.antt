@@ -1,4 +1,5 @@
 use native.Mathlib.Omega.{arith}
+use Rattle.terms.specs.Terms.{settingsIn}
 use Rattle.pen.specs.Pen.{pen}
 use Rattle.flow.specs.Ready.{after}
 use Rattle.flow.proofs.Laws.{Going, flowRuns, start, flow-step, flow-stop}
@@ -11,12 +12,12 @@ use Rattle.flow.proofs.+content+entry_key+entry_node+flow_entries+flow_
 use Rattle.flow.proofs.+content+entry_key+entry_node+flow_entries+flow_entry+group+line+lined_entries+lined_entry+lined_group+plain_group.Proof.Base.{flow-entries-at, flow-entries-claims}
 
 abbrev pub flow-entries-Inv-loop : flow-entries-lts.InvT-loop
-flow-entries-Inv-loop deck pool out₀ settings pairs n i still v₀ here₀ left₀ first₀ out v here left first =
-    Going settings deck pool i pairs (flowRuns settings deck pool i pairs (pen v₀ out₀)) (pen v₀ out₀) first₀ left₀ here₀ (pen v out) first left here
+flow-entries-Inv-loop deck pool out₀ terms pairs n i still v₀ here₀ left₀ first₀ out v here left first =
+    Going (settingsIn terms) deck pool i pairs (flowRuns (settingsIn terms) deck pool i pairs (pen v₀ out₀)) (pen v₀ out₀) first₀ left₀ here₀ (pen v out) first left here
     × Hushed deck pool still (treesIn pairs left) here
 
 abbrev pub flow-entries-μ-loop : flow-entries-lts.MeasureT-loop
-flow-entries-μ-loop deck pool out₀ settings pairs n i still v₀ here₀ left₀ first₀ out v here left first = left
+flow-entries-μ-loop deck pool out₀ terms pairs n i still v₀ here₀ left₀ first₀ out v here left first = left
 
 pub flow-entries-loop-holds : (t : ℕ) → flow-entries-lts.Need-loop-holds (flow-entries-claims t) (flow-entries-at t) flow-entries.Post flow-entries-Inv-loop flow-entries-μ-loop
 flow-entries-loop-holds t c = (start _ _ _ _ _ _ _ _ _ _ ((c .before .before .before .pre) .1 .0), (c .before .before .before .pre) .1 .1)

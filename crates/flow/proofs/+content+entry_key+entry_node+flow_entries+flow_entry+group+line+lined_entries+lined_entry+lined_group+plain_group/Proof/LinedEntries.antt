@@ -1,5 +1,6 @@
 use native.Mathlib.Omega.{arith}
 use mathlib.Core.Bool.{true}
+use Rattle.terms.specs.Terms.{settingsIn}
 use Rattle.pen.specs.Pen.{pen}
 use Rattle.flow.proofs.Laws.{Going, linedRuns, start, lined-step, lined-stop}
 use mathlib.Core.Path.{refl}
@@ -10,10 +11,10 @@ use Rattle.flow.proofs.+content+entry_key+entry_node+flow_entries+flow_
 use Rattle.flow.proofs.+content+entry_key+entry_node+flow_entries+flow_entry+group+line+lined_entries+lined_entry+lined_group+plain_group.Proof.Base.{lined-entries-at, lined-entries-claims}
 
 abbrev pub lined-entries-Inv-loop : lined-entries-lts.InvT-loop
-lined-entries-Inv-loop deck pool out₀ settings pairs n i v₀ here₀ left₀ out v here left = Going settings deck pool i pairs (linedRuns settings deck pool i pairs (pen v₀ out₀)) (pen v₀ out₀) true left₀ here₀ (pen v out) true left here
+lined-entries-Inv-loop deck pool out₀ terms pairs n i v₀ here₀ left₀ out v here left = Going (settingsIn terms) deck pool i pairs (linedRuns (settingsIn terms) deck pool i pairs (pen v₀ out₀)) (pen v₀ out₀) true left₀ here₀ (pen v out) true left here
 
 abbrev pub lined-entries-μ-loop : lined-entries-lts.MeasureT-loop
-lined-entries-μ-loop deck pool out₀ settings pairs n i v₀ here₀ left₀ out v here left = left
+lined-entries-μ-loop deck pool out₀ terms pairs n i v₀ here₀ left₀ out v here left = left
 
 pub lined-entries-loop-holds : (t : ℕ) → lined-entries-lts.Need-loop-holds (lined-entries-claims t) (lined-entries-at t) lined-entries.Post lined-entries-Inv-loop lined-entries-μ-loop
 lined-entries-loop-holds t c = start _ _ _ _ _ _ _ _ _ _ ((c .before .before .before .pre) .1)

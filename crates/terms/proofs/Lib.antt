@@ -1,0 +1,2 @@
+-- Laws that the proofs of this crate share.
+mod Laws
