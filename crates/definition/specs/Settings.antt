@@ -1,6 +1,6 @@
 -- The settings of a run: the null style and `DumpConfig`. Plain settings are named here and nowhere else.
 use Prim.Native.Nat.{ℕ}
-use mathlib.Core.Bool.{Bool, true, false}
+use mathlib.Core.Bool.{Bool, true, false, not}
 use lib.Dec.{eqb, ltb}
 use Rattle.definition.specs.Base.{if_then_else_}
 use Rattle.definition.specs.Fold.{Weight}
@@ -46,3 +46,10 @@ unfoldable pub isTilde : NullStyle → Bool
 isTilde Null = false
 isTilde Empty = false
 isTilde Tilde = true
+
+-- settings as numbers: 1 is the empty null style, 2 is `~`, any other number is `null`; of a yes or no, 0 is no
+unfoldable pub nullStyleOf : ℕ → NullStyle
+nullStyleOf n = if eqb n 1 then Empty else if eqb n 2 then Tilde else Null
+
+unfoldable pub isOn : ℕ → Bool
+isOn n = not (eqb n 0)

@@ -9,7 +9,7 @@ use pen::Writer;
 use spot::Spot;
 use terms::Terms;
 ghost use mathlib.Core.Path.{_≡_};
-ghost use Prim.Native.Nat.{_<_, _^_, _/_, _%_};
+ghost use Prim.Native.Nat.{_<_, _^_};
 ghost use mathlib.Core.Bool.{true, not, _&&_};
 ghost use lib.ListN.{length};
 ghost use Rattle.definition.specs.Document.{dashes, dots, oneDocument, allDocuments};

@@ -10,13 +10,13 @@ use definition::Settings;
 use judge::Verdict;
 ghost use mathlib.Core.Path.{_≡_};
 ghost use mathlib.Core.List.{[]};
-ghost use Rattle.definition.specs.Settings.{nullAs};
+ghost use Rattle.definition.specs.Settings.{nullAs, nullStyleOf, isOn};
 ghost use Rattle.definition.specs.Calls.{outcome, emitRoundtrip, emitRoundtripWith, emitRoundtripAllWith, emitRoundtripDump, callLocalModified, collectChangedIncludeChanges, tellModified};
 ghost use Rattle.agree.specs.Accepted.{Accepted};
 ghost use Rattle.told.specs.Outcome.{Small, lent};
 ghost use Rattle.answers.specs.Answer.{outcomeOf};
 ghost use Rattle.plan.specs.Collected.{lentWith};
-ghost use Rattle.rassemok.specs.Options.{nullStyleOf, isOn, settingsOf};
+ghost use Rattle.rassemok.specs.Options.{settingsOf};
 
 // Settings, as numbers.
 #[repr(C)]

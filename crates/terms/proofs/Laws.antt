@@ -4,17 +4,15 @@ use mathlib.Core.Path.{_≡_, refl}
 use mathlib.Core.Bool.{Bool, true, false}
 use native.Mathlib.Omega.{arith}
 use lib.Dec.{eqb}
-use borrow.Author.Tests.{eqb-true, ne-eqb}
+use borrow.Author.Tests.{eqb-true}
 use Rattle.definition.specs.Base.{if_then_else_}
-use Rattle.definition.specs.Settings.{isEmptyStyle, isTilde}
-use Rattle.definition.specs.declared.NullStyle.{NullStyle}
+use Rattle.definition.specs.Settings.{isEmptyStyle, isTilde, nullStyleOf, isOn}
 use Rattle.definition.specs.declared.NullStyle.the-variants.{Null, Empty, Tilde}
 use Rattle.definition.specs.declared.Settings.{Settings}
-use Rattle.terms.specs.declared.Terms.{Terms}
-use Rattle.terms.specs.Terms.{settingsIn, isOne, styleOf}
+use Rattle.terms.specs.Terms.{settingsIn}
 
-pub empty-told : (n : ℕ) → isEmptyStyle (styleOf n) ≡ eqb n 1
-unfolding isEmptyStyle styleOf
+pub empty-told : (n : ℕ) → isEmptyStyle (nullStyleOf n) ≡ eqb n 1
+unfolding isEmptyStyle nullStyleOf
 empty-told n = go (eqb n 1) (eqb n 2)
   where
     go : (a b : Bool) → isEmptyStyle (if a then Empty else if b then Tilde else Null) ≡ a
@@ -22,8 +20,8 @@ empty-told n = go (eqb n 1) (eqb n 2)
     go false true = refl
     go false false = refl
 
-pub tilde-told : (n : ℕ) → isTilde (styleOf n) ≡ eqb n 2
-unfolding isTilde styleOf
+pub tilde-told : (n : ℕ) → isTilde (nullStyleOf n) ≡ eqb n 2
+unfolding isTilde nullStyleOf
 tilde-told n = go (eqb n 1) (eqb n 2) refl refl
   where
     go : (a b : Bool) → eqb n 1 ≡ a → eqb n 2 ≡ b → isTilde (if a then Empty else if b then Tilde else Null) ≡ b
@@ -60,8 +58,8 @@ parts i w a b c d e p pa pb pc pd pe =
 
 -- the number of settings tells them
 pub told-back :
-    (s : Settings) {a b c d e : ℕ} → s .indent ≤ 16 → (isOne a ≡ s .«indent_sequences») × (a < 2) → (isOne b ≡ s .«explicit_end») × (b < 2)
-    → (isOne c ≡ s .indentless) × (c < 2) → (isOne d ≡ s .«single_quotes») × (d < 2) → (styleOf e ≡ s .«null_style») × (e < 4)
+    (s : Settings) {a b c d e : ℕ} → s .indent ≤ 16 → (isOn a ≡ s .«indent_sequences») × (a < 2) → (isOn b ≡ s .«explicit_end») × (b < 2)
+    → (isOn c ≡ s .indentless) × (c < 2) → (isOn d ≡ s .«single_quotes») × (d < 2) → (nullStyleOf e ≡ s .«null_style») × (e < 4)
     → settingsIn (record { told = number (s .indent) (s .width) a b c d e }) ≡ s
 unfolding settingsIn
 told-back s {a} {b} {c} {d} {e} i p q r t u =

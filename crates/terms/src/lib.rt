@@ -3,8 +3,8 @@ use definition::NullStyle;
 use definition::Settings;
 ghost use mathlib.Core.Path.{_≡_};
 ghost use Prim.Native.Nat.{_<_, _≤_};
-ghost use Rattle.definition.specs.Settings.{isEmptyStyle, isTilde};
-ghost use Rattle.terms.specs.Terms.{settingsIn, isOne, styleOf};
+ghost use Rattle.definition.specs.Settings.{isEmptyStyle, isTilde, nullStyleOf, isOn};
+ghost use Rattle.terms.specs.Terms.{settingsIn};
 
 pub struct Terms {
     pub told: usize,
@@ -26,25 +26,25 @@ impl Terms {
     pub fn indents_sequences(self) -> bool
         ensures { λ r. ⌜ r ≡ settingsIn self .«indent_sequences» ⌝ }
     {
-        self.told / 32 % 2 == 1
+        self.told / 32 % 2 != 0
     }
 
     pub fn ends_explicitly(self) -> bool
         ensures { λ r. ⌜ r ≡ settingsIn self .«explicit_end» ⌝ }
     {
-        self.told / 64 % 2 == 1
+        self.told / 64 % 2 != 0
     }
 
     pub fn is_indentless(self) -> bool
         ensures { λ r. ⌜ r ≡ settingsIn self .indentless ⌝ }
     {
-        self.told / 128 % 2 == 1
+        self.told / 128 % 2 != 0
     }
 
     pub fn quotes_singly(self) -> bool
         ensures { λ r. ⌜ r ≡ settingsIn self .«single_quotes» ⌝ }
     {
-        self.told / 256 % 2 == 1
+        self.told / 256 % 2 != 0
     }
 
     // A null that was edited in is not written.
@@ -64,7 +64,7 @@ impl Terms {
 
 // A yes or no as a number.
 fn bit(b: bool) -> usize
-    ensures { λ r. ⌜ (isOne r ≡ b) × (r < 2) ⌝ }
+    ensures { λ r. ⌜ (isOn r ≡ b) × (r < 2) ⌝ }
 {
     if b {
         return 1;
@@ -73,7 +73,7 @@ fn bit(b: bool) -> usize
 }
 
 fn style_number(style: NullStyle) -> usize
-    ensures { λ r. ⌜ (styleOf r ≡ style) × (r < 4) ⌝ }
+    ensures { λ r. ⌜ (nullStyleOf r ≡ style) × (r < 4) ⌝ }
 {
     match style {
         NullStyle::Null => 0,

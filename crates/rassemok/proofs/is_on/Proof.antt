@@ -1,4 +1,4 @@
-use Rattle.rassemok.specs.Options.{isOn}
+use Rattle.definition.specs.Settings.{isOn}
 use Rattle.rassemok.proofs.is_on.Statement.{statement}
 use Rattle.rassemok.proofs.is_on.Tie as tie
 

@@ -1,5 +1,5 @@
 use borrow.Author.Tests.{eq-eqb, ne-eqb}
-use Rattle.rassemok.specs.Options.{nullStyleOf}
+use Rattle.definition.specs.Settings.{nullStyleOf}
 use Rattle.rassemok.proofs.null_style_of.Statement.{statement}
 use Rattle.rassemok.proofs.null_style_of.Tie as tie
 

@@ -1,7 +1,7 @@
 use mathlib.Core.Path.{refl}
 use native.Mathlib.Omega.{arith}
 use borrow.Author.Needs.{needs}
-use Rattle.terms.specs.Terms.{styleOf}
+use Rattle.definition.specs.Settings.{nullStyleOf}
 use Rattle.terms.proofs.style_number.Statement.{statement}
 use Rattle.terms.proofs.style_number.Tie as tie
 
@@ -15,15 +15,15 @@ enum-told-3 : tie.Need-enum-told-3
 enum-told-3 c = search needs
 
 returns : tie.Need-returns
-unfolding styleOf
+unfolding nullStyleOf
 returns c = (rw (c .enum-told .given .1) refl, omega arith)
 
 returns-2 : tie.Need-returns-2
-unfolding styleOf
+unfolding nullStyleOf
 returns-2 c = (rw (c .enum-told2 .given .1) refl, omega arith)
 
 returns-3 : tie.Need-returns-3
-unfolding styleOf
+unfolding nullStyleOf
 returns-3 c = (rw (c .enum-told3 .given .1) refl, omega arith)
 
 pub style-number-spec : {M : Type 1} → statement M
