@@ -24,8 +24,8 @@ ghost use Rattle.flow.specs.Hushed.{treesIn, Hushed, HushedIn, Quiet, Li
 
 // The writer after something was written, and the cursor after it in the deck.
 pub struct Emitted {
-    pub w: Writer,
     pub next: Cursor,
+    pub w: Writer,
 }
 
 // No entry has comments, at any depth: told already, or found so.

@@ -13,18 +13,18 @@ ghost use Rattle.terms.specs.Terms.{settingsIn};
 ghost use Rattle.pen.specs.Pen.{fields, pen, put1, puts, columnAfter, columnOver, lineEnded, withFlow, withKey, noted, rawed, unput, ended};
 ghost use Rattle.pen.specs.Shown.{keeps, begun};
 
-// `len`: how many bytes were put, at most the room and two. `raw`: one more than where the last raw text ended without a line break, 0 at the
-// start. `edge`: the byte put last, 0 at the start, times 256, and what it was put over, 0 past the room. `inline`: one more than the place of the
-// node whose inline comment was written last, 0 at the start. `column`: the columns since the last line break, at most the room and two; kept only
-// where the mode says so. `mode`: how many flow collections are open, times 4; 2 where columns are kept; 1 inside an inline key.
-// Two numbers hold five, since a writer goes through memory at every call (docs/DECISIONS.md).
+// `inline`: one more than the place of the node whose inline comment was written last, 0 at the start. `mode`: how many flow collections are open, times 4;
+// 2 where columns are kept; 1 inside an inline key. `column`: the columns since the last line break, at most the room and two; kept only where the mode
+// says so. `edge`: the byte put last, 0 at the start, times 256, and what it was put over, 0 past the room. `raw`: one more than where the last raw text
+// ended without a line break, 0 at the start. `len`: how many bytes were put, at most the room and two.
+// Two numbers hold five, since a writer goes through memory at every call; their order is for speed too (docs/DECISIONS.md).
 pub struct Writer {
-    pub len: usize,
-    pub raw: usize,
-    pub edge: usize,
     pub inline: usize,
-    pub column: usize,
     pub mode: usize,
+    pub column: usize,
+    pub edge: usize,
+    pub raw: usize,
+    pub len: usize,
 }
 
 // Two bytes in one number.
@@ -174,12 +174,12 @@ pub fn fresh_writer(terms: Terms) -> Writer
     ensures { λ r. ⌜ fields r ≡ begun (settingsIn terms) ⌝ }
 {
     Writer {
-        len: 0,
-        raw: 0,
-        edge: 0,
         inline: 0,
-        column: 0,
         mode: first_mode(terms.width()),
+        column: 0,
+        edge: 0,
+        raw: 0,
+        len: 0,
     }
 }
 
@@ -189,12 +189,12 @@ impl Writer {
         ensures { λ r. ⌜ r ≡ self ⌝ }
     {
         Writer {
-            len: self.len,
-            raw: self.raw,
-            edge: self.edge,
             inline: self.inline,
-            column: self.column,
             mode: self.mode,
+            column: self.column,
+            edge: self.edge,
+            raw: self.raw,
+            len: self.len,
         }
     }
 
