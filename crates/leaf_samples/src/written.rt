@@ -39,7 +39,7 @@ fn numbers_of(row: &[u8]) -> Numbers
 }
 
 // Plain settings but for the width and the quotes.
-fn terms(width: usize, single_quotes: bool) -> Terms
+fn plain_but(width: usize, single_quotes: bool) -> Terms
     requires { ⌜ width < 65536 ⌝ }
 {
     let settings = Settings {
@@ -54,11 +54,11 @@ fn terms(width: usize, single_quotes: bool) -> Terms
     terms::terms_of(settings)
 }
 
-// A writer in an empty output that stands at a column.
+// A writer in an empty output that stands at a column. Columns are kept under any width but 0.
 fn fresh(column: usize) -> Writer
     ensures { λ r. ⌜ (r .column ≡ column) × (r .len ≡ 0) ⌝ }
 {
-    let mut w = pen::fresh_writer(terms(1, false));
+    let mut w = pen::fresh_writer(plain_but(1, false));
     w.column = column;
     w
 }
@@ -89,7 +89,7 @@ fn folded(w: Writer, out: &mut [u8], t: &[u8], n: Numbers) -> Writer
 fn scalar(w: Writer, out: &mut [u8], t: &[u8], n: Numbers) -> Writer
     requires { ⌜ (length (now t) ≤ 65536) × (length (now out) < 2 ^ 62) × (w .column < 65536) × (n .width < 65536) ⌝ }
 {
-    let s = terms(n.width, n.indent > 0);
+    let s = plain_but(n.width, n.indent > 0);
     scalar::put_scalar(w, out, s, n.column > 0, n.mark, t, style_of(n.style), 2)
 }
 
@@ -115,7 +115,7 @@ fn put(w: Writer, out: &mut [u8], t: &[u8], n: Numbers) -> Writer
         0 => quoted::put_body(w, out, t, n.mark),
         1 => folded(w, out, t, n),
         2 => scalar(w, out, t, n),
-        3 => scalar::put_separator(w, out, terms(n.width, false), n.mark, n.indent),
+        3 => scalar::put_separator(w, out, plain_but(n.width, false), n.mark, n.indent),
         _ => line(w, out, t, n),
     }
 }

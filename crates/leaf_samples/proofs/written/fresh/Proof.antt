@@ -6,8 +6,8 @@ use Rattle.pen.specs.Shown.{begun}
 use Rattle.leaf_samples.proofs.written.fresh.Statement.{statement}
 use Rattle.leaf_samples.proofs.written.fresh.Tie as tie
 
-terms-requires : tie.Need-terms-requires
-terms-requires c κs = search needs
+plain-but-requires : tie.Need-plain-but-requires
+plain-but-requires c κs = search needs
 
 fresh-writer-requires : tie.Need-fresh-writer-requires
 fresh-writer-requires c κs = search needs
@@ -17,4 +17,4 @@ unfolding begun
 returns c = (refl, ap (λ (f : Fields). f .len) (c .fresh-writer .ensures))
 
 pub fresh-spec : {M : Type 1} → statement M
-fresh-spec = tie.close (tie.spec terms-requires fresh-writer-requires returns)
+fresh-spec = tie.close (tie.spec plain-but-requires fresh-writer-requires returns)
