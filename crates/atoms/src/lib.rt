@@ -39,7 +39,7 @@ fn is_tilde_null(terms: Terms, lines: Lines) -> bool
 }
 
 pub fn put_null(w: Writer, out: &mut [u8], terms: Terms, lines: Lines) -> Writer
-    requires { ⌜ length (now out) < 2 ^ 62 ⌝ }
+    requires { ⌜ length (now out) < 2 ^ 21 ⌝ }
     ensures { λ r. ⌜ pen r (now (out .exit)) ≡ puts (nullIn (settingsIn terms) lines) (pen w (now (out .entry))) ⌝ }
 {
     if is_tilde_null(terms, lines) {
@@ -49,7 +49,7 @@ pub fn put_null(w: Writer, out: &mut [u8], terms: Terms, lines: Lines) -> Writer
 }
 
 pub fn put_alias(w: Writer, pool: &[u8], out: &mut [u8], t: Text) -> Writer
-    requires { ⌜ length (now out) < 2 ^ 62 ⌝ }
+    requires { ⌜ length (now out) < 2 ^ 21 ⌝ }
     ensures { λ r. ⌜ pen r (now (out .exit)) ≡ puts ('*' ∷ words (now (pool .entry)) t) (pen w (now (out .entry))) ⌝ }
 {
     let w1 = w.byte(out, b'*');
@@ -110,7 +110,7 @@ fn put_commented(
     remark: Remark,
     t: &[u8],
 ) -> Writer
-    requires { ⌜ (length (now out) < 2 ^ 62) × (place < 2 ^ 62) ⌝ }
+    requires { ⌜ (length (now out) < 2 ^ 21) × (place < 2 ^ 18) ⌝ }
     ensures { λ r. ⌜ Draws (commented marker i place (remarkOf (now (deck .entry)) (now (pool .entry)) remark) (now (t .entry))) (pen w (now (out .entry))) (pen r (now (out .exit))) ⌝ }
 {
     let w1 = put_header(w, out, t, marker);
@@ -130,7 +130,7 @@ fn put_fresh(
     remark: Remark,
     said: Words,
 ) -> Writer
-    requires { ⌜ (length (now out) < 2 ^ 62) × (length (now pool) ≤ 65536) × (place < 2 ^ 62) × (w .column < 2 ^ 63) ⌝ }
+    requires { ⌜ (length (now out) < 2 ^ 21) × (length (now pool) ≤ 65536) × (place < 2 ^ 18) ⌝ }
     ensures { λ r. ⌜ pen r (now (out .exit)) ≡ ink (settingsIn terms)
         (freshIn (on (fields w .flow)) (on (fields w .key)) i place (remarkOf (now (deck .entry)) (now (pool .entry)) remark) (words (now (pool .entry)) (said .text)) (said .style))
         (pen w (now (out .entry))) ⌝ }
@@ -169,7 +169,7 @@ pub fn put_words(
     modified: bool,
     said: Words,
 ) -> Writer
-    requires { ⌜ (length (now out) < 2 ^ 62) × (length (now pool) ≤ 65536) × (place < 2 ^ 62) × (w .column < 2 ^ 63) × (w .len < 2 ^ 62) ⌝ }
+    requires { ⌜ (length (now out) < 2 ^ 21) × (length (now pool) ≤ 65536) × (place < 2 ^ 18) ⌝ }
     ensures { λ r. ⌜ pen r (now (out .exit)) ≡ ink (settingsIn terms)
         (replays place (heldOf (now (deck .entry)) (now (pool .entry)) raw) modified
         (freshIn (on (fields w .flow)) (on (fields w .key)) i place (remarkOf (now (deck .entry)) (now (pool .entry)) remark) (words (now (pool .entry)) (said .text)) (said .style)))

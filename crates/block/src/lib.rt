@@ -33,7 +33,7 @@ fn put_opening(
     j: usize,
     dashed: bool,
 ) -> Writer
-    requires { ⌜ (length (now out) < 2 ^ 62) × (x .place < 2 ^ 62) × Short (x .lead) ⌝ }
+    requires { ⌜ (length (now out) < 2 ^ 21) × (x .place < 2 ^ 18) × Short (x .lead) ⌝ }
     ensures { λ r. ⌜ Draws (openingOf (now (deck .entry)) (now (pool .entry)) dashed x j) (pen w (now (out .entry))) (pen r (now (out .exit))) ⌝ }
 {
     if dashed {
@@ -51,7 +51,7 @@ pub fn with_foots(
     x: Spot,
     k: usize,
 ) -> Emitted
-    requires { ⌜ (length (now out) < 2 ^ 62) × Short (x .lead) ⌝ }
+    requires { ⌜ (length (now out) < 2 ^ 21) × Short (x .lead) ⌝ }
     ensures { λ r. ⌜ Footed (now (deck .entry)) (now (pool .entry)) x k (pen (e .w) (now (out .entry))) (pen (r .w) (now (out .exit))) (e .next) (r .next) ⌝ }
 {
     let next = e.next;
@@ -65,7 +65,7 @@ pub fn with_foots(
 
 // The colon of an explicit key, at column i.
 fn with_colon(e: Emitted, out: &mut [u8], i: usize) -> Emitted
-    requires { ⌜ length (now out) < 2 ^ 62 ⌝ }
+    requires { ⌜ length (now out) < 2 ^ 21 ⌝ }
     ensures { λ r. ⌜ Coloned i (pen (e .w) (now (out .entry))) (pen (r .w) (now (out .exit))) (e .next) (r .next) ⌝ }
 {
     let next = e.next;
@@ -118,7 +118,7 @@ fn put_rows(
     let mut first = true;
     while left > 0 {
         let e = put_row(v, deck, pool, out, terms, pairs, here, i, lead, first);
-        v = e.w.anew();
+        v = e.w;
         here = e.next;
         lead = true;
         first = false;
@@ -148,8 +148,7 @@ fn put_row(
     if pairs {
         let e = put_key(w1, deck, pool, out, terms, x, i, first);
         let next = e.next;
-        let v = e.w.anew();
-        return put_value(v, deck, pool, out, terms, next, i);
+        return put_value(e.w, deck, pool, out, terms, next, i);
     }
     put_dash(w1, deck, pool, out, terms, x, c, i)
 }
@@ -226,8 +225,7 @@ fn put_value(
         return layout::put_bare(w, deck, pool, out, x.lead, x.next);
     }
     if deck::is_marked(x.lead.lines.marks, 2) {
-        let u = w.anew();
-        return layout::put_below(u, deck, pool, out, terms, x, j);
+        return layout::put_below(w, deck, pool, out, terms, x, j);
     }
     let w1 = layout::put_pad(w, out, x.lead.lines.pad);
     flow::line(w1, deck, pool, out, terms, x, j, Manner::Value, false)
@@ -260,8 +258,7 @@ fn put_dash(
         return layout::put_bare(w1, deck, pool, out, x.lead, x.next);
     }
     if deck::is_marked(x.lead.lines.marks, 2) {
-        let u = w1.anew();
-        return layout::put_below(u, deck, pool, out, terms, x, j);
+        return layout::put_below(w1, deck, pool, out, terms, x, j);
     }
     let w2 = layout::put_pad(w1, out, x.lead.lines.pad);
     flow::line(w2, deck, pool, out, terms, x, j, Manner::Value, false)

@@ -32,7 +32,7 @@ pub struct Going {
 
 // A line break, or the rest of a line.
 fn line_turn(g: Going, out: &mut [u8], t: &[u8], i: usize, indent: usize) -> Going
-    requires { ⌜ (i < length (now t)) × (length (now out) < 2 ^ 62) ⌝ }
+    requires { ⌜ (i < length (now t)) × (length (now out) < 2 ^ 21) ⌝ }
     ensures { λ r. ⌜ (puts (indented indent (r .fresh) (drop (r .at) (now (t .entry)))) (pen (r .w) (now (out .exit)))
         ≡ puts (indented indent (g .fresh) (drop i (now (t .entry)))) (pen (g .w) (now (out .entry)))) × (i < r .at) ⌝ }
 {
@@ -62,7 +62,7 @@ fn line_turn(g: Going, out: &mut [u8], t: &[u8], i: usize, indent: usize) -> Goi
 
 // A text's lines, each at the indent where it is not empty.
 fn put_lines(w: Writer, out: &mut [u8], t: &[u8], indent: usize) -> Writer
-    requires { ⌜ length (now out) < 2 ^ 62 ⌝ }
+    requires { ⌜ length (now out) < 2 ^ 21 ⌝ }
     ensures { λ r. ⌜ pen r (now (out .exit)) ≡ puts (indented indent true (now (t .entry))) (pen w (now (out .entry))) ⌝ }
 {
     let fresh = true;
@@ -97,7 +97,7 @@ fn trailing_breaks(t: &[u8]) -> usize
 
 // The marker and the chomping mark.
 pub fn put_header(w: Writer, out: &mut [u8], t: &[u8], marker: u8) -> Writer
-    requires { ⌜ length (now out) < 2 ^ 62 ⌝ }
+    requires { ⌜ length (now out) < 2 ^ 21 ⌝ }
     ensures { λ r. ⌜ pen r (now (out .exit)) ≡ puts (blockHeader marker (now (t .entry))) (pen w (now (out .entry))) ⌝ }
 {
     let ends = trailing_breaks(t);
@@ -116,7 +116,7 @@ pub fn put_header(w: Writer, out: &mut [u8], t: &[u8], marker: u8) -> Writer
 
 // After the header: its line break, the lines, and the breaks beyond the first.
 pub fn put_block_body(w: Writer, out: &mut [u8], t: &[u8], indent: usize) -> Writer
-    requires { ⌜ length (now out) < 2 ^ 62 ⌝ }
+    requires { ⌜ length (now out) < 2 ^ 21 ⌝ }
     ensures { λ r. ⌜ pen r (now (out .exit)) ≡ puts (blockBody indent (now (t .entry))) (pen w (now (out .entry))) ⌝ }
 {
     let ends = trailing_breaks(t);

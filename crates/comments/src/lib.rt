@@ -26,7 +26,7 @@ pub enum Entries {
 
 // `emit_comment_line`
 fn comment_line(w: Writer, out: &mut [u8], indent: usize, t: &[u8]) -> Writer
-    requires { ⌜ length (now out) < 2 ^ 62 ⌝ }
+    requires { ⌜ length (now out) < 2 ^ 21 ⌝ }
     ensures { λ r. ⌜ Draws (commentLine indent (now (t .entry))) (pen w (now (out .entry))) (pen r (now (out .exit))) ⌝ }
 {
     let w1 = w.spaces(out, indent);
@@ -35,7 +35,7 @@ fn comment_line(w: Writer, out: &mut [u8], indent: usize, t: &[u8]) -> Writer
 }
 
 fn percent_line(w: Writer, out: &mut [u8], t: &[u8]) -> Writer
-    requires { ⌜ length (now out) < 2 ^ 62 ⌝ }
+    requires { ⌜ length (now out) < 2 ^ 21 ⌝ }
     ensures { λ r. ⌜ Draws (percent (now (t .entry))) (pen w (now (out .entry))) (pen r (now (out .exit))) ⌝ }
 {
     let w1 = w.byte(out, b'%');
@@ -75,7 +75,7 @@ fn comment_at(
     indent: usize,
     c: Cursor,
 ) -> Writer
-    requires { ⌜ (length (now out) < 2 ^ 62) × (c .at < 2 ^ 63) ⌝ }
+    requires { ⌜ (length (now out) < 2 ^ 21) × (c .at < 2 ^ 63) ⌝ }
     ensures { λ r. ⌜ Draws (commentLine indent (textOf (now (deck .entry)) (now (pool .entry)) c)) (pen w (now (out .entry))) (pen r (now (out .exit))) ⌝ }
 {
     let t = text_of(deck, pool, c);
@@ -83,7 +83,7 @@ fn comment_at(
 }
 
 fn above_at(w: Writer, deck: &[u8], pool: &[u8], out: &mut [u8], indent: usize, c: Cursor) -> Writer
-    requires { ⌜ (length (now out) < 2 ^ 62) × (c .at < 2 ^ 63) ⌝ }
+    requires { ⌜ (length (now out) < 2 ^ 21) × (c .at < 2 ^ 63) ⌝ }
     ensures { λ r. ⌜ Draws (entry (now (deck .entry)) (now (pool .entry)) Entries.Over indent c) (pen w (now (out .entry))) (pen r (now (out .exit))) ⌝ }
 {
     if is_below(deck, c) {
@@ -93,7 +93,7 @@ fn above_at(w: Writer, deck: &[u8], pool: &[u8], out: &mut [u8], indent: usize, 
 }
 
 fn below_at(w: Writer, deck: &[u8], pool: &[u8], out: &mut [u8], indent: usize, c: Cursor) -> Writer
-    requires { ⌜ (length (now out) < 2 ^ 62) × (c .at < 2 ^ 63) ⌝ }
+    requires { ⌜ (length (now out) < 2 ^ 21) × (c .at < 2 ^ 63) ⌝ }
     ensures { λ r. ⌜ Draws (entry (now (deck .entry)) (now (pool .entry)) Entries.Under indent c) (pen w (now (out .entry))) (pen r (now (out .exit))) ⌝ }
 {
     if is_below(deck, c) {
@@ -103,7 +103,7 @@ fn below_at(w: Writer, deck: &[u8], pool: &[u8], out: &mut [u8], indent: usize, 
 }
 
 fn directive_at(w: Writer, deck: &[u8], pool: &[u8], out: &mut [u8], c: Cursor) -> Writer
-    requires { ⌜ (length (now out) < 2 ^ 62) × (c .at < 2 ^ 63) ⌝ }
+    requires { ⌜ (length (now out) < 2 ^ 21) × (c .at < 2 ^ 63) ⌝ }
     ensures { λ r. ⌜ Draws (percent (textOf (now (deck .entry)) (now (pool .entry)) c)) (pen w (now (out .entry))) (pen r (now (out .exit))) ⌝ }
 {
     let t = text_of(deck, pool, c);
@@ -120,7 +120,7 @@ fn put_entry(
     indent: usize,
     c: Cursor,
 ) -> Writer
-    requires { ⌜ (length (now out) < 2 ^ 62) × (c .at < 2 ^ 63) ⌝ }
+    requires { ⌜ (length (now out) < 2 ^ 21) × (c .at < 2 ^ 63) ⌝ }
     ensures { λ r. ⌜ Draws (entry (now (deck .entry)) (now (pool .entry)) e indent c) (pen w (now (out .entry))) (pen r (now (out .exit))) ⌝ }
 {
     match e {
@@ -154,7 +154,7 @@ fn put_run(
     indent: usize,
     run: Run,
 ) -> Writer
-    requires { ⌜ (length (now out) < 2 ^ 62) × (run .first .at < 2 ^ 61) × (run .count < 2 ^ 58) ⌝ }
+    requires { ⌜ (length (now out) < 2 ^ 21) × (run .first .at < 2 ^ 61) × (run .count < 2 ^ 58) ⌝ }
     ensures { λ r. ⌜ Draws (entries (now (deck .entry)) (now (pool .entry)) e indent (run .count) (run .first)) (pen w (now (out .entry))) (pen r (now (out .exit))) ⌝ }
 {
     let step = stride_of(e);
@@ -193,7 +193,7 @@ pub fn put_repeated(
     e: Entries,
     indent: usize,
 ) -> Writer
-    requires { ⌜ (length (now out) < 2 ^ 62) × Short lead ⌝ }
+    requires { ⌜ (length (now out) < 2 ^ 21) × Short lead ⌝ }
     ensures { λ r. ⌜ Draws (repeated e (keptOf (now (deck .entry)) (now (pool .entry)) lead) indent) (pen w (now (out .entry))) (pen r (now (out .exit))) ⌝ }
 {
     let run = run_of(lead, e);
@@ -212,7 +212,7 @@ pub fn put_heads(
     lead: Lead,
     indent: usize,
 ) -> Writer
-    requires { ⌜ (length (now out) < 2 ^ 62) × Short lead ⌝ }
+    requires { ⌜ (length (now out) < 2 ^ 21) × Short lead ⌝ }
     ensures { λ r. ⌜ Draws (heads (keptOf (now (deck .entry)) (now (pool .entry)) lead) indent) (pen w (now (out .entry))) (pen r (now (out .exit))) ⌝ }
 {
     if lead.heads.count == 0 {
@@ -230,7 +230,7 @@ pub fn put_above_dash(
     lead: Lead,
     indent: usize,
 ) -> Writer
-    requires { ⌜ (length (now out) < 2 ^ 62) × Short lead ⌝ }
+    requires { ⌜ (length (now out) < 2 ^ 21) × Short lead ⌝ }
     ensures { λ r. ⌜ Draws (aboveDash (keptOf (now (deck .entry)) (now (pool .entry)) lead) indent) (pen w (now (out .entry))) (pen r (now (out .exit))) ⌝ }
 {
     let lines = lead.lines;
@@ -249,7 +249,7 @@ pub fn put_below_dash(
     lead: Lead,
     indent: usize,
 ) -> Writer
-    requires { ⌜ (length (now out) < 2 ^ 62) × Short lead ⌝ }
+    requires { ⌜ (length (now out) < 2 ^ 21) × Short lead ⌝ }
     ensures { λ r. ⌜ Draws (belowDash (keptOf (now (deck .entry)) (now (pool .entry)) lead) indent) (pen w (now (out .entry))) (pen r (now (out .exit))) ⌝ }
 {
     let lines = lead.lines;

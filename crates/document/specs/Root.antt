@@ -9,7 +9,6 @@ use Rattle.definition.specs.declared.Cursor.{Cursor}
 use Rattle.definition.specs.declared.Settings.{Settings}
 use Rattle.pen.specs.Pen.{Pen, page}
 use Rattle.pen.specs.Shown.{begun}
-use Rattle.scripts.specs.Keep.{begun-fit}
 use Rattle.flow.specs.Ready.{Emits}
 use Rattle.layout.specs.Calm.{Calm, in-line, calm-after, calm-further}
 
@@ -39,7 +38,6 @@ begin s deck pool out d p o i =
         here = omega arith;
         indent = omega (arith, d);
         flow = omega (arith, d);
-        fit = begun-fit s out;
       };
       column = omega (arith, d);
       flow = refl;

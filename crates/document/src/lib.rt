@@ -27,7 +27,7 @@ ghost use Rattle.layout.specs.Calm.{Calm};
 ghost use Rattle.document.specs.Pieces.{bomIn, startIn, stopIn, plainIn, opened, separationIn, frontIn, placedOf, documentsLeft, placedFrom, blockRoot, lineRoot, rootOf};
 
 fn put_dashes(w: Writer, out: &mut [u8]) -> Writer
-    requires { ⌜ length (now out) < 2 ^ 62 ⌝ }
+    requires { ⌜ length (now out) < 2 ^ 21 ⌝ }
     ensures { λ r. ⌜ Draws dashes (pen w (now (out .entry))) (pen r (now (out .exit))) ⌝ }
 {
     let w1 = w.text(out, b"---");
@@ -35,7 +35,7 @@ fn put_dashes(w: Writer, out: &mut [u8]) -> Writer
 }
 
 fn put_dots(w: Writer, out: &mut [u8]) -> Writer
-    requires { ⌜ length (now out) < 2 ^ 62 ⌝ }
+    requires { ⌜ length (now out) < 2 ^ 21 ⌝ }
     ensures { λ r. ⌜ Draws dots (pen w (now (out .entry))) (pen r (now (out .exit))) ⌝ }
 {
     let w1 = w.text(out, b"...");
@@ -44,7 +44,7 @@ fn put_dots(w: Writer, out: &mut [u8]) -> Writer
 
 // The byte order mark, where mark 64 is set.
 fn put_bom(w: Writer, out: &mut [u8], marks: usize) -> Writer
-    requires { ⌜ length (now out) < 2 ^ 62 ⌝ }
+    requires { ⌜ length (now out) < 2 ^ 21 ⌝ }
     ensures { λ r. ⌜ Draws (bomIn marks) (pen w (now (out .entry))) (pen r (now (out .exit))) ⌝ }
 {
     if deck::is_marked(marks, 64) {
@@ -55,7 +55,7 @@ fn put_bom(w: Writer, out: &mut [u8], marks: usize) -> Writer
 
 // `---`, where mark 32 is set.
 fn put_start(w: Writer, out: &mut [u8], marks: usize) -> Writer
-    requires { ⌜ length (now out) < 2 ^ 62 ⌝ }
+    requires { ⌜ length (now out) < 2 ^ 21 ⌝ }
     ensures { λ r. ⌜ Draws (startIn marks) (pen w (now (out .entry))) (pen r (now (out .exit))) ⌝ }
 {
     if deck::is_marked(marks, 32) {
@@ -66,7 +66,7 @@ fn put_start(w: Writer, out: &mut [u8], marks: usize) -> Writer
 
 // `...`, where the settings ask for it.
 fn put_stop(w: Writer, out: &mut [u8], terms: Terms) -> Writer
-    requires { ⌜ length (now out) < 2 ^ 62 ⌝ }
+    requires { ⌜ length (now out) < 2 ^ 21 ⌝ }
     ensures { λ r. ⌜ Draws (stopIn (settingsIn terms)) (pen w (now (out .entry))) (pen r (now (out .exit))) ⌝ }
 {
     if terms.ends_explicitly() {
@@ -77,7 +77,7 @@ fn put_stop(w: Writer, out: &mut [u8], terms: Terms) -> Writer
 
 // What separates a document from the one before it.
 fn put_separation(w: Writer, out: &mut [u8], lead: Lead) -> Writer
-    requires { ⌜ length (now out) < 2 ^ 62 ⌝ }
+    requires { ⌜ length (now out) < 2 ^ 21 ⌝ }
     ensures { λ r. ⌜ Draws (separationIn lead) (pen w (now (out .entry))) (pen r (now (out .exit))) ⌝ }
 {
     if lead.directives.count != 0 {
@@ -104,7 +104,7 @@ fn is_plain(lead: Lead) -> bool
 
 // What stands before a document's root: one test first, so that where nothing does, no writer is copied.
 fn put_opening(w: Writer, deck: &[u8], pool: &[u8], out: &mut [u8], lead: Lead) -> Writer
-    requires { ⌜ (length (now out) < 2 ^ 62) × Short lead ⌝ }
+    requires { ⌜ (length (now out) < 2 ^ 21) × Short lead ⌝ }
     ensures { λ r. ⌜ Draws (opened (now (deck .entry)) (now (pool .entry)) lead) (pen w (now (out .entry))) (pen r (now (out .exit))) ⌝ }
 {
     if is_plain(lead) {
@@ -195,7 +195,7 @@ fn put_root(
 
 // What stands before a document: before the first one a byte order mark, before another what separates it from the one before it.
 fn put_front(w: Writer, out: &mut [u8], lead: Lead, first: bool) -> Writer
-    requires { ⌜ length (now out) < 2 ^ 62 ⌝ }
+    requires { ⌜ length (now out) < 2 ^ 21 ⌝ }
     ensures { λ r. ⌜ Draws (frontIn first lead) (pen w (now (out .entry))) (pen r (now (out .exit))) ⌝ }
 {
     if first {

@@ -9,20 +9,17 @@ use lib.ListN.{length, take, drop, length-drop, drop-of-length-le}
 use lib.Dec.{eqb}
 use borrow.Rule.Slice.PartAt.{part-to-end}
 use borrow.Author.Tests.{eq-eqb, ne-eqb}
-use Rattle.definition.specs.Base.{Bytes, if_then_else_}
-use Rattle.definition.specs.Ascii.{LF}
+use Rattle.definition.specs.Base.{Bytes}
 use Rattle.definition.specs.Settings.{nullAs, plainSettings}
 use Rattle.definition.specs.Document.{oneDocument}
 use Rattle.definition.specs.Calls.{noChange}
-use Rattle.definition.specs.Pen.{Script}
 use Rattle.definition.specs.declared.Cursor.{Cursor}
 use Rattle.definition.specs.declared.Settings.{Settings}
 use Rattle.definition.specs.declared.File.{File}
 use Rattle.definition.specs.declared.File.the-variants.{Absent, Id}
 use Rattle.pen.specs.declared.Writer.{Writer}
-use Rattle.pen.specs.Pen.{Fields, Pen, fields, page, pen, unput, ended, ink}
+use Rattle.pen.specs.Pen.{Fields, Pen, fields, page, pen, ended, ink}
 use Rattle.pen.specs.Shown.{begun}
-use Rattle.scripts.specs.Keep.{ink-length, ink-fit}
 use Rattle.modified.specs.Files as modified
 use Rattle.joints.specs.Entries.{nodeAt}
 use Rattle.layout.specs.Calm.{Calm, calm-further}
@@ -111,28 +108,6 @@ file-calm deck pool out start c s w e f d p o k =
     let l : length (drop start out) ≤ 1048576 = rw (length-drop start out) (omega (arith, o)) in
     rw (part-to-end out start, f) (calm-further (begin s deck pool (drop start out) d p l (plain-step s e)) (c .at) (omega arith) k)
 
--- and ends: it wrote at most two bytes more than there is room for
-ended-len : (p : Pen) → ended p .w .len ≤ p .w .len
-unfolding ended unput
-ended-len p = go (eqb (p .w .raw) 0) (eqb (p .w .len) (p .w .raw)) (eqb (p .w .last) LF)
-  where
-    go : (a b c : Bool) → (if a then p else if b then (if c then unput p else p) else p) .w .len ≤ p .w .len
-    go true b c = omega arith
-    go false false c = omega arith
-    go false true true = omega arith
-    go false true false = omega arith
-
-pub file-len :
-    {s : Settings} {deck pool : Bytes} {at : ℕ} (w : Writer) (out : Bytes) (start : ℕ) (a : Script) (v : Writer) (to : Bytes) → Calm s deck pool (pen w (part start out)) at 0
-    → pen v to ≡ ended (ink s a (pen w (part start out))) → v .len ≤ length out - start + 2
-file-len {s} w out start a v to c q =
-    let p : Pen = pen w (part start out) in
-    let f = ink-fit s a p (c .ready .fit) in
-    let x : v .len ≤ ink s a p .w .len = rw (ap (λ (y : Pen). y .w .len) q) (ended-len (ink s a p)) in
-    let y : ink s a p .w .len ≤ length (ink s a p .out) + 2 = f .len in
-    let z : length (ink s a p .out) ≡ length out - start = ink-length s a p ∙ ap length (part-to-end out start) ∙ length-drop start out in
-    omega (arith, x, y, z)
-
 -- what it leaves
 file-pen :
     (deck pool out : Bytes) (start : ℕ) (c : Cursor) (s : Settings) (w v : Writer) (to : Bytes) → s ≡ plainSettings → fields w ≡ begun s
@@ -148,15 +123,15 @@ nothing-after : (out : Bytes) (start : ℕ) → drop (length out - start) (drop 
 nothing-after out start = drop-of-length-le (drop start out) {i = length out - start} (rw (length-drop start out) (omega arith))
 
 pub file-done :
-    (deck pool out : Bytes) (start : ℕ) (f : Found) (s : Settings) (w v : Writer) (to : Bytes) → s ≡ plainSettings → fields w ≡ begun s
+    (deck pool out : Bytes) (start : ℕ) (f : Found) (s : Settings) (w v : Writer) (to : Bytes) (n : ℕ) → n ≡ fields v .len → s ≡ plainSettings → fields w ≡ begun s
     → pen v to ≡ ended (ink s (oneDocument s true (nodeAt deck pool (f .at))) (pen w (part start out)))
-    → (record { change = record { id = f .id; start = start; length = v .len }; next = record { at = f .next .at; start = start + v .len; zero = 0 } } ≡ fileStep deck pool out start f .made)
+    → (record { change = record { id = f .id; start = start; length = n }; next = record { at = f .next .at; start = start + n; zero = 0 } } ≡ fileStep deck pool out start f .made)
     × (take start out ++ (to ++ drop (length out - start) (drop start out)) ≡ fileStep deck pool out start f .out)
 unfolding fileStep
-file-done deck pool out start f s w v to e g q =
+file-done deck pool out start f s w v to n l e g q =
     let z = file-pen deck pool out start (f .at) s w v to e g q in
-    let m : Pen → Made = λ p. record { change = record { id = f .id; start = start; length = p .w .len }; next = record { at = f .next .at; start = start + p .w .len; zero = 0 } } in (
-      ap m z,
+    let m : ℕ → Made = λ k. record { change = record { id = f .id; start = start; length = k }; next = record { at = f .next .at; start = start + k; zero = 0 } } in (
+      ap m (l ∙ ap (λ (p : Pen). p .w .len) z),
       ap (λ (x : Bytes). take start out ++ (to ++ x)) (nothing-after out start) ∙ ap (λ (x : Bytes). take start out ++ x) (append-nil to) ∙ ap (λ (p : Pen). take start out ++ p .out) z,
     )
 

@@ -103,7 +103,7 @@ fn write_file(deck: &[u8], pool: &[u8], out: &mut [u8], start: usize, f: Found) 
     let w = pen::fresh_writer(terms);
     let c = f.at;
     let v = document::write_one(w, deck, pool, &mut out[start..], terms, c, true);
-    let length = v.len;
+    let length = v.len();
     let next = f.next;
     let change = Change {
         id: f.id,

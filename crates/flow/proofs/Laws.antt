@@ -394,7 +394,7 @@ module _ (s : Settings) (deck pool : Bytes) where
   group-in f w v out at i to g e r l m = rw (flowed-is w v (f + 1) out e, g) (inside r to l m)
 
   -- the depth is small enough for one more
-  pub depth-small : (f : ℕ) (w : Writer) (out : Bytes) {at i : ℕ} → f ≡ fields w .flow → Ready s deck pool (pen w out) at i → f + 1 < 2 ^ 60
+  pub depth-small : (f : ℕ) (w : Writer) (out : Bytes) {at i : ℕ} → f ≡ fields w .flow → Ready s deck pool (pen w out) at i → f + 1 < 2 ^ 18
   depth-small f w out e r = let h = r .flow in omega (arith, e, h)
 
   -- ---- the loops over entries: finishing from here ends as finishing from the start would

@@ -12,7 +12,7 @@ use Rattle.definition.specs.Pen.{Script}
 use Rattle.definition.specs.declared.Cursor.{Cursor}
 use Rattle.definition.specs.declared.Settings.{Settings}
 use Rattle.pen.specs.Pen.{Pen, ink, withFlow, withKey}
-use Rattle.scripts.specs.Keep.{Fit, length-of, ink-length, ink-flow, fit-of, with-flow-fit, with-key-fit}
+use Rattle.scripts.specs.Keep.{length-of, ink-length, ink-flow}
 use Rattle.pen.specs.Draws.{Draws}
 use Rattle.spot.specs.declared.Spot.{Spot}
 use Rattle.spot.specs.Spot.{endIn, nodeIn, spotAt, tree-value, tree-end}
@@ -28,8 +28,7 @@ pub record Ready (s : Settings) (deck pool : Bytes) (P : Pen) (at i : ℕ) : Typ
   pub step : s .indent ≤ 16
   pub here : at ≤ length deck
   pub indent : i + 16 * (length deck - at) ≤ 4294967296
-  pub flow : P .w .flow + (length deck - at) ≤ 4294967296
-  pub fit : Fit P
+  pub flow : P .w .flow + (length deck - at) ≤ 131072
 
 -- the script is drawn, and the cursor after it is handed back: no earlier than where it began, and in the deck
 pub record Emits (s : Settings) (a : Script) (P P′ : Pen) (start : ℕ) (after after′ : Cursor) (limit : ℕ) : Type 0 where
@@ -62,7 +61,6 @@ module _ {s : Settings} {deck pool : Bytes} where
         here = r .here;
         indent = r .indent;
         flow = rw (ap (λ (x : Pen). x .w .flow) e, ink-flow t a P) (r .flow);
-        fit = fit-of t a P Q e (r .fit);
       }
 
   pub after-drawn : {P Q : Pen} {at i : ℕ} {a : Script} → Ready s deck pool P at i → Draws a P Q → Ready s deck pool Q at i
@@ -79,7 +77,6 @@ module _ {s : Settings} {deck pool : Bytes} where
         here = l;
         indent = let x = r .indent in omega arith;
         flow = let x = r .flow in omega arith;
-        fit = r .fit;
       }
 
   -- past a collection's record: one step in, and one flow collection more
@@ -94,7 +91,6 @@ module _ {s : Settings} {deck pool : Bytes} where
         here = l;
         indent = let x = r .indent in let y = step-small s (r .step) in omega arith;
         flow = let x = r .flow in omega arith;
-        fit = with-flow-fit (P .w .flow + 1) P (r .fit);
       }
 
   -- at an indent that is no larger
@@ -108,7 +104,6 @@ module _ {s : Settings} {deck pool : Bytes} where
         here = r .here;
         indent = let x = r .indent in omega arith;
         flow = r .flow;
-        fit = r .fit;
       }
 
   -- with another key mark
@@ -123,7 +118,6 @@ module _ {s : Settings} {deck pool : Bytes} where
         here = r .here;
         indent = r .indent;
         flow = r .flow;
-        fit = with-key-fit n P (r .fit);
       }
 
 -- from the node that was read to the tree at its cursor: from one place to the other, and the script too

@@ -58,7 +58,7 @@ fn is_lined(deck: &[u8], quiet: bool, pairs: bool, c: Cursor, n: usize) -> bool
 
 // Back at a depth of flow collections.
 fn back(e: Emitted, flow: usize) -> Emitted
-    requires { ⌜ flow < 2 ^ 60 ⌝ }
+    requires { ⌜ flow < 2 ^ 18 ⌝ }
     ensures { λ r. ⌜ (pen (r .w) [] ≡ withFlow flow (pen (e .w) [])) × (r .next ≡ e .next) ⌝ }
 {
     let next = e.next;

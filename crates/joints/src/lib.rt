@@ -27,7 +27,7 @@ ghost use Rattle.joints.specs.Entries.{keyHeads, linedBefore, linedAfter
 
 // `emit_flow_separator`, but before the first entry.
 pub fn put_between(w: Writer, out: &mut [u8], terms: Terms, first: bool, i: usize) -> Writer
-    requires { ⌜ (w .column < 2 ^ 63) × (length (now out) < 2 ^ 62) ⌝ }
+    requires { ⌜ length (now out) < 2 ^ 21 ⌝ }
     ensures { λ r. ⌜ pen r (now (out .exit)) ≡ ink (settingsIn terms) (if first then nothing else comma (on (fields w .key)) i) (pen w (now (out .entry))) ⌝ }
 {
     if first {
@@ -39,7 +39,7 @@ pub fn put_between(w: Writer, out: &mut [u8], terms: Terms, first: bool, i: usiz
 
 // `end_inline_key`: an alias has a space before its colon.
 fn put_colon(w: Writer, out: &mut [u8], body: Body) -> Writer
-    requires { ⌜ length (now out) < 2 ^ 62 ⌝ }
+    requires { ⌜ length (now out) < 2 ^ 21 ⌝ }
     ensures { λ r. ⌜ Colon body (pen w (now (out .entry))) (pen r (now (out .exit))) ⌝ }
 {
     if spot::case_of(body) == 2 {
@@ -81,7 +81,7 @@ pub fn put_dress(
     x: Spot,
     manner: Manner,
 ) -> Writer
-    requires { ⌜ length (now out) < 2 ^ 62 ⌝ }
+    requires { ⌜ length (now out) < 2 ^ 21 ⌝ }
     ensures { λ r. ⌜ Draws (dressed manner (props (broughtIn (now (deck .entry)) (now (pool .entry)) x))) (pen w (now (out .entry))) (pen r (now (out .exit))) ⌝ }
 {
     if rank_of(manner) == 2 {
@@ -109,7 +109,7 @@ pub fn put_ending(
     x: Spot,
     manner: Manner,
 ) -> Writer
-    requires { ⌜ (length (now out) < 2 ^ 62) × (x .place < 2 ^ 62) ⌝ }
+    requires { ⌜ (length (now out) < 2 ^ 21) × (x .place < 2 ^ 18) ⌝ }
     ensures { λ r. ⌜ Draws (ending manner (x .place) (keptIn (now (deck .entry)) (now (pool .entry)) x) (kindIn (now (deck .entry)) (now (pool .entry)) x)) (pen w (now (out .entry))) (pen r (now (out .exit))) ⌝ }
 {
     let rank = rank_of(manner);
@@ -136,7 +136,7 @@ fn put_key_heads(
     c: Cursor,
     i: usize,
 ) -> Writer
-    requires { ⌜ (length (now out) < 2 ^ 62) × (c .at ≤ length (now deck)) × (length (now deck) ≤ 65536) ⌝ }
+    requires { ⌜ (length (now out) < 2 ^ 21) × (c .at ≤ length (now deck)) × (length (now deck) ≤ 65536) ⌝ }
     ensures { λ r. ⌜ Draws (keyHeads (now (deck .entry)) (now (pool .entry)) i pairs c) (pen w (now (out .entry))) (pen r (now (out .exit))) ⌝ }
 {
     if pairs {
@@ -168,7 +168,7 @@ pub fn put_lined_before(
     lead: Lead,
     i: usize,
 ) -> Writer
-    requires { ⌜ (length (now out) < 2 ^ 62) × (c .at ≤ length (now deck)) × (length (now deck) ≤ 65536) × Short lead ⌝ }
+    requires { ⌜ (length (now out) < 2 ^ 21) × (c .at ≤ length (now deck)) × (length (now deck) ≤ 65536) × Short lead ⌝ }
     ensures { λ r. ⌜ Draws (linedBefore (now (deck .entry)) (now (pool .entry)) i pairs c (keptOf (now (deck .entry)) (now (pool .entry)) lead)) (pen w (now (out .entry))) (pen r (now (out .exit))) ⌝ }
 {
     let w1 = put_key_heads(w, deck, pool, out, pairs, c, i);
@@ -178,7 +178,7 @@ pub fn put_lined_before(
 
 // The comma after an entry, but after the last one.
 fn put_comma(w: Writer, out: &mut [u8], last: bool) -> Writer
-    requires { ⌜ length (now out) < 2 ^ 62 ⌝ }
+    requires { ⌜ length (now out) < 2 ^ 21 ⌝ }
     ensures { λ r. ⌜ Draws (if last then nothing else sign COMMA) (pen w (now (out .entry))) (pen r (now (out .exit))) ⌝ }
 {
     if last {
@@ -197,7 +197,7 @@ pub fn put_lined_after(
     place: usize,
     remark: Remark,
 ) -> Writer
-    requires { ⌜ (length (now out) < 2 ^ 62) × (place < 2 ^ 62) ⌝ }
+    requires { ⌜ (length (now out) < 2 ^ 21) × (place < 2 ^ 18) ⌝ }
     ensures { λ r. ⌜ Draws (linedAfter last place (remarkOf (now (deck .entry)) (now (pool .entry)) remark)) (pen w (now (out .entry))) (pen r (now (out .exit))) ⌝ }
 {
     let w1 = put_comma(w, out, last);

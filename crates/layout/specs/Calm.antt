@@ -30,7 +30,6 @@ module _ {s : Settings} {deck pool : Bytes} where
         here = l;
         indent = let x = c .column in omega (arith, x, h, l, b);
         flow = let x = r .flow in omega (arith, x, h, l);
-        fit = r .fit;
       }
 
   -- after a script

@@ -35,7 +35,7 @@ pub fn put_include(
     x: Spot,
     c: Cursor,
 ) -> Emitted
-    requires { ⌜ (length (now out) ≤ 1048576) × (c .at ≤ length (now deck)) × (length (now deck) ≤ 65536) × (x .place < 2 ^ 62) ⌝ }
+    requires { ⌜ (length (now out) ≤ 1048576) × (c .at ≤ length (now deck)) × (length (now deck) ≤ 65536) × (x .place < 2 ^ 18) ⌝ }
     ensures { λ r. ⌜ Emits (settingsIn terms) (includeAfter (x .place) (keptIn (now (deck .entry)) (now (pool .entry)) x)) (pen w (now (out .entry))) (pen (r .w) (now (out .exit))) (c .at) (nextAt (now (deck .entry)) (now (pool .entry)) c) (r .next) (length (now (deck .entry))) ⌝ }
 {
     let w1 = w.byte(out, b' ');
@@ -63,7 +63,7 @@ pub fn put_below(
 
 // The space between an introducer and its value. One space is a byte: most values have no other pad.
 pub fn put_pad(w: Writer, out: &mut [u8], pad: usize) -> Writer
-    requires { ⌜ length (now out) < 2 ^ 62 ⌝ }
+    requires { ⌜ length (now out) < 2 ^ 21 ⌝ }
     ensures { λ r. ⌜ Draws (indent (max pad 1)) (pen w (now (out .entry))) (pen r (now (out .exit))) ⌝ }
 {
     if pad < 2 {
@@ -74,7 +74,7 @@ pub fn put_pad(w: Writer, out: &mut [u8], pad: usize) -> Writer
 
 // A node's properties, to the end of the line.
 pub fn put_dressed(w: Writer, deck: &[u8], pool: &[u8], out: &mut [u8], lead: Lead) -> Writer
-    requires { ⌜ length (now out) < 2 ^ 62 ⌝ }
+    requires { ⌜ length (now out) < 2 ^ 21 ⌝ }
     ensures { λ r. ⌜ Draws (bareLine (broughtOf (now (deck .entry)) (now (pool .entry)) lead)) (pen w (now (out .entry))) (pen r (now (out .exit))) ⌝ }
 {
     let w1 = parts::put_props_compact(w, deck, pool, out, lead);
@@ -91,7 +91,7 @@ pub fn put_bare(
     lead: Lead,
     next: Cursor,
 ) -> Emitted
-    requires { ⌜ length (now out) < 2 ^ 62 ⌝ }
+    requires { ⌜ length (now out) < 2 ^ 21 ⌝ }
     ensures { λ r. ⌜ (Draws (bareLine (broughtOf (now (deck .entry)) (now (pool .entry)) lead)) (pen w (now (out .entry))) (pen (r .w) (now (out .exit)))) × (r .next ≡ next) ⌝ }
 {
     if parts::is_either(lead.tag, lead.anchor) {
@@ -130,7 +130,7 @@ pub fn put_before(
     i: usize,
     begin: bool,
 ) -> Writer
-    requires { ⌜ (length (now out) < 2 ^ 62) × Short lead ⌝ }
+    requires { ⌜ (length (now out) < 2 ^ 21) × Short lead ⌝ }
     ensures { λ r. ⌜ Draws (if begin then before pairs (keptOf (now (deck .entry)) (now (pool .entry)) lead) i else nothing) (pen w (now (out .entry))) (pen r (now (out .exit))) ⌝ }
 {
     if begin {

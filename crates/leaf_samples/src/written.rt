@@ -1,7 +1,6 @@
 // Quoted bodies, block scalars, lines with comments, scalars and separators, each into an empty output. A row has a first step, which takes the
 // text, and two that may follow, which take the note.
 ghost use Prim.Native.Nat.{_≤_, _<_, _^_};
-ghost use mathlib.Core.Path.{_≡_};
 ghost use lib.ListN.{length};
 use definition::NullStyle;
 use definition::Settings;
@@ -56,11 +55,10 @@ fn plain_but(width: usize, single_quotes: bool) -> Terms
 
 // A writer in an empty output that stands at a column. Columns are kept under any width but 0.
 fn fresh(column: usize) -> Writer
-    ensures { λ r. ⌜ (r .column ≡ column) × (r .len ≡ 0) ⌝ }
+    requires { ⌜ column < 65536 ⌝ }
 {
-    let mut w = pen::fresh_writer(plain_but(1, false));
-    w.column = column;
-    w
+    let w = pen::fresh_writer(plain_but(1, false));
+    w.at_column(column)
 }
 
 // A style by its number in a deck.
@@ -76,7 +74,7 @@ fn style_of(n: usize) -> Style {
 
 // A body folded: it begins at the column, and later lines at the indent.
 fn folded(w: Writer, out: &mut [u8], t: &[u8], n: Numbers) -> Writer
-    requires { ⌜ (length (now t) ≤ 65536) × (length (now out) < 2 ^ 62) × (n .column < 65536) × (n .indent < 65536) ⌝ }
+    requires { ⌜ (length (now t) ≤ 65536) × (length (now out) < 2 ^ 21) × (n .column < 65536) × (n .indent < 65536) ⌝ }
 {
     let f = Fold {
         indent: n.indent,
@@ -87,7 +85,7 @@ fn folded(w: Writer, out: &mut [u8], t: &[u8], n: Numbers) -> Writer
 
 // A scalar, in flow unless it stands at column 0; a block scalar's lines stand at column 2.
 fn scalar(w: Writer, out: &mut [u8], t: &[u8], n: Numbers) -> Writer
-    requires { ⌜ (length (now t) ≤ 65536) × (length (now out) < 2 ^ 62) × (w .column < 65536) × (n .width < 65536) ⌝ }
+    requires { ⌜ (length (now t) ≤ 65536) × (length (now out) < 2 ^ 21) × (n .width < 65536) ⌝ }
 {
     let s = plain_but(n.width, n.indent > 0);
     scalar::put_scalar(w, out, s, n.column > 0, n.mark, t, style_of(n.style), 2)
@@ -95,7 +93,7 @@ fn scalar(w: Writer, out: &mut [u8], t: &[u8], n: Numbers) -> Writer
 
 // The first step of a line: the header of a block scalar, a text, a raw text, or an inline comment.
 fn line(w: Writer, out: &mut [u8], t: &[u8], n: Numbers) -> Writer
-    requires { ⌜ (length (now out) < 2 ^ 62) × (w .len ≡ 0) × (n .style < 256) ⌝ }
+    requires { ⌜ (length (now out) < 2 ^ 21) × (n .style < 256) ⌝ }
 {
     let kind = n.kind;
     match kind {
@@ -108,7 +106,7 @@ fn line(w: Writer, out: &mut [u8], t: &[u8], n: Numbers) -> Writer
 
 // The first step.
 fn put(w: Writer, out: &mut [u8], t: &[u8], n: Numbers) -> Writer
-    requires { ⌜ (length (now t) ≤ 65536) × (length (now out) < 2 ^ 62) × (w .len ≡ 0) × (w .column ≡ n .column) × (n .style < 256) × (n .column < 65536) × (n .indent < 65536) × (n .width < 65536) ⌝ }
+    requires { ⌜ (length (now t) ≤ 65536) × (length (now out) < 2 ^ 21) × (n .style < 256) × (n .column < 65536) × (n .indent < 65536) × (n .width < 65536) ⌝ }
 {
     let kind = n.kind;
     match kind {
@@ -122,7 +120,7 @@ fn put(w: Writer, out: &mut [u8], t: &[u8], n: Numbers) -> Writer
 
 // A step that follows: nothing, the body of a block scalar, an inline comment, or the line's end.
 fn follow(kind: usize, w: Writer, out: &mut [u8], note: &[u8], n: Numbers) -> Writer
-    requires { ⌜ (length (now out) < 2 ^ 62) × (n .width < 65536) ⌝ }
+    requires { ⌜ (length (now out) < 2 ^ 21) × (n .width < 65536) ⌝ }
 {
     match kind {
         0 => w,
@@ -134,7 +132,7 @@ fn follow(kind: usize, w: Writer, out: &mut [u8], note: &[u8], n: Numbers) -> Wr
 
 // The steps of a row.
 fn steps(row: &[u8], t: &[u8], note: &[u8], out: &mut [u8]) -> Writer
-    requires { ⌜ (length (now t) ≤ 65536) × (length (now out) < 2 ^ 62) ⌝ }
+    requires { ⌜ (length (now t) ≤ 65536) × (length (now out) < 2 ^ 21) ⌝ }
 {
     let n = numbers_of(row);
     let w = put(fresh(n.column), out, t, n);
@@ -157,5 +155,5 @@ pub fn holds(row: &[u8], t: &[u8], note: &[u8], want: &[u8]) -> bool
     let mut out = [0u8; 256];
     let w = steps(row, t, note, &mut out);
     let end = w.finish(&mut out);
-    begins(&out, end.len, want)
+    begins(&out, end.len(), want)
 }

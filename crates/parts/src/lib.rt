@@ -21,7 +21,7 @@ ghost use Rattle.parts.specs.Lines.{only, propsBy, propsOf, directed, br
 
 // A byte, where it is wanted.
 fn put_if(w: Writer, out: &mut [u8], wanted: bool, b: u8) -> Writer
-    requires { ⌜ length (now out) < 2 ^ 62 ⌝ }
+    requires { ⌜ length (now out) < 2 ^ 21 ⌝ }
     ensures { λ r. ⌜ pen r (now (out .exit)) ≡ puts (only wanted b) (pen w (now (out .entry))) ⌝ }
 {
     if wanted {
@@ -41,7 +41,7 @@ fn put_prop(
     h: Held,
     ended: bool,
 ) -> Writer
-    requires { ⌜ length (now out) < 2 ^ 62 ⌝ }
+    requires { ⌜ length (now out) < 2 ^ 21 ⌝ }
     ensures { λ r. ⌜ Draws (prop (only spaced 32 ++ only anchor 38) (heldOf (now (deck .entry)) (now (pool .entry)) h) (only ended 32)) (pen w (now (out .entry))) (pen r (now (out .exit))) ⌝ }
 {
     if h.at == 0 {
@@ -63,7 +63,7 @@ fn put_both(
     tag: Held,
     anchor: Held,
 ) -> Writer
-    requires { ⌜ length (now out) < 2 ^ 62 ⌝ }
+    requires { ⌜ length (now out) < 2 ^ 21 ⌝ }
     ensures { λ r. ⌜ Draws (propsBy compact (heldOf (now (deck .entry)) (now (pool .entry)) tag) (heldOf (now (deck .entry)) (now (pool .entry)) anchor)) (pen w (now (out .entry))) (pen r (now (out .exit))) ⌝ }
 {
     let ended = !compact;
@@ -80,19 +80,18 @@ pub fn put_props(
     tag: Held,
     anchor: Held,
 ) -> Writer
-    requires { ⌜ length (now out) < 2 ^ 62 ⌝ }
+    requires { ⌜ length (now out) < 2 ^ 21 ⌝ }
     ensures { λ r. ⌜ Draws (propsOf (heldOf (now (deck .entry)) (now (pool .entry)) tag) (heldOf (now (deck .entry)) (now (pool .entry)) anchor)) (pen w (now (out .entry))) (pen r (now (out .exit))) ⌝ }
 {
     if is_either(tag, anchor) {
-        let v = put_both(w, deck, pool, out, false, tag, anchor);
-        return v.anew();
+        return put_both(w, deck, pool, out, false, tag, anchor);
     }
     w
 }
 
 // `emit_anchor_tag_compact`, with the same test.
 pub fn put_props_compact(w: Writer, deck: &[u8], pool: &[u8], out: &mut [u8], lead: Lead) -> Writer
-    requires { ⌜ length (now out) < 2 ^ 62 ⌝ }
+    requires { ⌜ length (now out) < 2 ^ 21 ⌝ }
     ensures { λ r. ⌜ Draws (propsCompact (broughtOf (now (deck .entry)) (now (pool .entry)) lead)) (pen w (now (out .entry))) (pen r (now (out .exit))) ⌝ }
 {
     if is_either(lead.tag, lead.anchor) {
@@ -113,7 +112,7 @@ pub fn is_either(tag: Held, anchor: Held) -> bool
 
 // `emit_anchor_tag_line`
 pub fn put_props_line(w: Writer, deck: &[u8], pool: &[u8], out: &mut [u8], lead: Lead) -> Writer
-    requires { ⌜ length (now out) < 2 ^ 62 ⌝ }
+    requires { ⌜ length (now out) < 2 ^ 21 ⌝ }
     ensures { λ r. ⌜ Draws (propsLine (broughtOf (now (deck .entry)) (now (pool .entry)) lead)) (pen w (now (out .entry))) (pen r (now (out .exit))) ⌝ }
 {
     if is_either(lead.tag, lead.anchor) {
@@ -134,7 +133,7 @@ pub fn put_remark(
     place: usize,
     m: Remark,
 ) -> Writer
-    requires { ⌜ (length (now out) < 2 ^ 62) × (place < 2 ^ 62) ⌝ }
+    requires { ⌜ (length (now out) < 2 ^ 21) × (place < 2 ^ 18) ⌝ }
     ensures { λ r. ⌜ Draws (comment place (remarkOf (now (deck .entry)) (now (pool .entry)) m)) (pen w (now (out .entry))) (pen r (now (out .exit))) ⌝ }
 {
     if m.at == 0 {
@@ -151,7 +150,7 @@ pub fn put_remark(
 
 // `emit_directive`
 fn put_directive(w: Writer, deck: &[u8], pool: &[u8], out: &mut [u8], o: Origin) -> Writer
-    requires { ⌜ length (now out) < 2 ^ 62 ⌝ }
+    requires { ⌜ length (now out) < 2 ^ 21 ⌝ }
     ensures { λ r. ⌜ Draws (put directive (directiveOf (originOf (now (deck .entry)) (now (pool .entry)) o))) (pen w (now (out .entry))) (pen r (now (out .exit))) ⌝ }
 {
     if o.at == 0 {
@@ -172,7 +171,7 @@ pub fn put_include_line(
     place: usize,
     lead: Lead,
 ) -> Writer
-    requires { ⌜ (length (now out) < 2 ^ 62) × (place < 2 ^ 62) ⌝ }
+    requires { ⌜ (length (now out) < 2 ^ 21) × (place < 2 ^ 18) ⌝ }
     ensures { λ r. ⌜ Draws (directed place (originOf (now (deck .entry)) (now (pool .entry)) (lead .origin)) (remarkOf (now (deck .entry)) (now (pool .entry)) (lead .remark))) (pen w (now (out .entry))) (pen r (now (out .exit))) ⌝ }
 {
     let w1 = put_directive(w, deck, pool, out, lead.origin);
@@ -199,7 +198,7 @@ fn put_break(
     place: usize,
     lead: Lead,
 ) -> Writer
-    requires { ⌜ (length (now out) < 2 ^ 62) × (place < 2 ^ 62) ⌝ }
+    requires { ⌜ (length (now out) < 2 ^ 21) × (place < 2 ^ 18) ⌝ }
     ensures { λ r. ⌜ Draws (breaks place (remarkOf (now (deck .entry)) (now (pool .entry)) (lead .remark)) (broughtOf (now (deck .entry)) (now (pool .entry)) lead)) (pen w (now (out .entry))) (pen r (now (out .exit))) ⌝ }
 {
     if is_silent(lead) {
@@ -219,14 +218,13 @@ pub fn put_close(
     place: usize,
     remark: Remark,
 ) -> Writer
-    requires { ⌜ (length (now out) < 2 ^ 62) × (place < 2 ^ 62) ⌝ }
+    requires { ⌜ (length (now out) < 2 ^ 21) × (place < 2 ^ 18) ⌝ }
     ensures { λ r. ⌜ Draws (closes place (remarkOf (now (deck .entry)) (now (pool .entry)) remark)) (pen w (now (out .entry))) (pen r (now (out .exit))) ⌝ }
 {
     if remark.at == 0 {
         return w.end_line(out);
     }
-    let u = w.anew();
-    let w1 = put_remark(u, deck, pool, out, place, remark);
+    let w1 = put_remark(w, deck, pool, out, place, remark);
     w1.end_line(out)
 }
 
@@ -240,7 +238,7 @@ fn put_over(
     lead: Lead,
     i: usize,
 ) -> Writer
-    requires { ⌜ (length (now out) < 2 ^ 62) × Short lead ⌝ }
+    requires { ⌜ (length (now out) < 2 ^ 21) × Short lead ⌝ }
     ensures { λ r. ⌜ Draws (headsOver pairs (keptOf (now (deck .entry)) (now (pool .entry)) lead) i) (pen w (now (out .entry))) (pen r (now (out .exit))) ⌝ }
 {
     if pairs {
@@ -259,7 +257,7 @@ pub fn put_before(
     lead: Lead,
     i: usize,
 ) -> Writer
-    requires { ⌜ (length (now out) < 2 ^ 62) × Short lead ⌝ }
+    requires { ⌜ (length (now out) < 2 ^ 21) × Short lead ⌝ }
     ensures { λ r. ⌜ Draws (before pairs (keptOf (now (deck .entry)) (now (pool .entry)) lead) i) (pen w (now (out .entry))) (pen r (now (out .exit))) ⌝ }
 {
     let lines = lead.lines;
@@ -278,7 +276,7 @@ pub fn put_below(
     lead: Lead,
     i: usize,
 ) -> Writer
-    requires { ⌜ (length (now out) < 2 ^ 62) × (place < 2 ^ 62) × Short lead ⌝ }
+    requires { ⌜ (length (now out) < 2 ^ 21) × (place < 2 ^ 18) × Short lead ⌝ }
     ensures { λ r. ⌜ Draws (belowOpen place (keptOf (now (deck .entry)) (now (pool .entry)) lead) (broughtOf (now (deck .entry)) (now (pool .entry)) lead) i) (pen w (now (out .entry))) (pen r (now (out .exit))) ⌝ }
 {
     let w1 = put_break(w, deck, pool, out, place, lead);
@@ -296,7 +294,7 @@ pub fn put_colon_block(
     lead: Lead,
     i: usize,
 ) -> Writer
-    requires { ⌜ (length (now out) < 2 ^ 62) × (place < 2 ^ 62) × Short lead ⌝ }
+    requires { ⌜ (length (now out) < 2 ^ 21) × (place < 2 ^ 18) × Short lead ⌝ }
     ensures { λ r. ⌜ Draws (colonOpen place (keptOf (now (deck .entry)) (now (pool .entry)) lead) (broughtOf (now (deck .entry)) (now (pool .entry)) lead) i) (pen w (now (out .entry))) (pen r (now (out .exit))) ⌝ }
 {
     let w1 = put_break(w, deck, pool, out, place, lead);
@@ -313,7 +311,7 @@ pub fn put_dash_block(
     lead: Lead,
     i: usize,
 ) -> Writer
-    requires { ⌜ (length (now out) < 2 ^ 62) × (place < 2 ^ 62) × Short lead ⌝ }
+    requires { ⌜ (length (now out) < 2 ^ 21) × (place < 2 ^ 18) × Short lead ⌝ }
     ensures { λ r. ⌜ Draws (dashOpen place (keptOf (now (deck .entry)) (now (pool .entry)) lead) (broughtOf (now (deck .entry)) (now (pool .entry)) lead) i) (pen w (now (out .entry))) (pen r (now (out .exit))) ⌝ }
 {
     let w1 = put_break(w, deck, pool, out, place, lead);

@@ -1,15 +1,14 @@
--- What the proofs of this crate share: the last byte of a text, and what bounds a pen keeps.
+-- What the proofs of this crate share: the last byte of a text, and a comment's text.
 use mathlib.Core.Path.{_≡_, refl}
-use Prim.Native.Nat.{ℕ, suc, _+_, _-_, _<_, _≤_}
+use Prim.Native.Nat.{suc, _-_, _<_}
 use native.Mathlib.Omega.{arith}
 use mathlib.Core.Bool.{false, _||_}
 use mathlib.Core.List.{[], _∷_}
-use lib.ListN.{length, getD, length-set}
+use lib.ListN.{length, getD}
 use lib.Dec.{eqb}
 use Rattle.definition.specs.Base.{Bytes, isNil}
 use Rattle.definition.specs.Ascii.{LF, CR, SP, '#'}
 use Rattle.definition.specs.Pen.{endsClosed, hashed}
-use Rattle.pen.specs.Pen.{Pen, put1, puts}
 
 pub nothing-open : (t : Bytes) → length t ≡ 0 → endsClosed t ≡ false
 unfolding endsClosed
@@ -34,20 +33,3 @@ pub hashed-text : (t : Bytes) → (length t ≡ 0 → ⊥) → hashed t ≡ '#' 
 unfolding hashed isNil
 hashed-text [] h = absurd (h refl)
 hashed-text (b ∷ t) h = refl
-
-put1-length : (p : Pen) (b : ℕ) → length (put1 p b .out) ≡ length (p .out)
-unfolding put1
-put1-length p b = length-set (p .out) (p .w .len) b
-
-put1-count : (p : Pen) (b : ℕ) → put1 p b .w .len ≤ length (p .out) + 2
-unfolding put1
-put1-count p b = omega arith
-
--- the count stops at two past the room
-pub puts-count : (t : Bytes) (p : Pen) (n : ℕ) → p .w .len ≤ n → length (p .out) + 2 ≤ n → puts t p .w .len ≤ n
-unfolding puts
-puts-count [] p n h k = h
-puts-count (b ∷ t) p n h k =
-    let e = put1-length p b in
-    let g = put1-count p b in
-    puts-count t (put1 p b) n (omega arith) (omega arith)

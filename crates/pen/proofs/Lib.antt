@@ -1,3 +1,4 @@
 -- Laws that the proofs of this crate share.
+mod Kept
 mod Laws
 mod Texts

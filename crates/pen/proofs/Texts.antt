@@ -1,16 +1,16 @@
 -- A text is written at once, as far as it has room: where its bytes are stored, and what the writer is then.
 use mathlib.Core.Path.{_≡_, refl, sym, ap, _∙_}
-use Prim.Native.Nat.{ℕ, zero, suc, _+_, _-_, _<_, _≤_, min}
+use Prim.Native.Nat.{ℕ, zero, suc, _+_, _-_, _/_, _%_, _<_, _≤_, min}
 use native.Mathlib.Omega.{arith}
 use native.Mathlib.Numerals.{add-one}
 use mathlib.Core.List.{[], _∷_}
 use lib.ListN.{length, getD, set, take, drop, replicate, length-set, length-replicate, getD-replicate, List·getD-eq-default}
 use lib.Seq.{sets, drop-cons, take-nil, set-out, getD-set-other}
 use lib.Dec.{eqb, leb}
-use borrow.Author.Tests.{ne-eqb, leb-true, leb-false, le-leb, lt-leb}
-use mathlib.Core.Bool.{Bool, true, false}
+use borrow.Author.Tests.{leb-true, leb-false, le-leb, lt-leb}
+use mathlib.Core.Bool.{Bool, true, false, not, true≢false}
 use Rattle.definition.specs.Base.{Bytes, if_then_else_}
-use Rattle.pen.specs.Pen.{Fields, Pen, page, columnAfter, columnOver, put1, puts}
+use Rattle.pen.specs.Pen.{Fields, Pen, page, moved, putTo, atColumn, columnAfter, columnOver, columnPast, put1, puts}
 
 -- ---- room
 
@@ -75,41 +75,51 @@ filled b n o o′ at i z h e inv =
 
 -- ---- the column
 
--- where no columns are kept it stays
-pub no-column : (k most c : ℕ) (t : Bytes) → k ≡ 0 → c ≡ columnOver k most c t
+-- it goes by the byte
+pub column-on : (most c c′ i : ℕ) (t : Bytes) (z : ℕ) → i < length t → c′ ≡ (if eqb (getD t i 0) 10 then 0 else min (c + 1) most)
+    → columnOver most c (drop i t) ≡ z → columnOver most c′ (drop (i + 1) t) ≡ z
 unfolding columnOver
-no-column k most c [] e = refl
-no-column k most c (b ∷ t) e = rw e (rw e at (no-column k most c t e))
+column-on most c c′ i t z h e inv = rw (add-one, e) (rw (drop-cons t i 0 h) at inv)
 
--- else it goes by the byte
-column-step : (k most c b : ℕ) (t : Bytes) → (k ≡ 0 → ⊥) → columnOver k most c (b ∷ t) ≡ columnOver k most (if eqb b 10 then 0 else min (c + 1) most) t
+pub column-again : (most c c′ b n z : ℕ) → 0 < n → c′ ≡ (if eqb b 10 then 0 else min (c + 1) most)
+    → columnOver most c (replicate n b) ≡ z → columnOver most c′ (replicate (n - 1) b) ≡ z
 unfolding columnOver
-column-step k most c b t n = ap (λ (x : ℕ). columnOver k most x t) (rw (ne-eqb k 0 n))
+column-again most c c′ b zero z h e inv = absurd (omega arith)
+column-again most c c′ b (suc n) z h e inv = let m : suc n - 1 ≡ n = omega arith in rw (m, e) inv
 
-pub column-on : (k most c c′ i : ℕ) (t : Bytes) (z : ℕ) → (k ≡ 0 → ⊥) → i < length t → c′ ≡ (if eqb (getD t i 0) 10 then 0 else min (c + 1) most)
-    → columnOver k most c (drop i t) ≡ z → columnOver k most c′ (drop (i + 1) t) ≡ z
-column-on k most c c′ i t z n h e inv = rw (add-one, e) (sym (column-step k most c (getD t i 0) (drop (suc i) t) n) ∙ rw (drop-cons t i 0 h) at inv)
+-- of a text it is that of its first byte, and then of the rest
+past-step : (w : Fields) (most b : ℕ) (t : Bytes) → columnPast w most (b ∷ t) ≡ columnPast (atColumn (columnAfter w most b) w) most t
+unfolding columnPast columnAfter columnOver
+past-step w most b t = go (eqb (w .tracks) 0)
+  where
+    go : (k : Bool) → (if k then w .column else columnOver most (if eqb b 10 then 0 else min (w .column + 1) most) t)
+        ≡ (if k then (if k then w .column else if eqb b 10 then 0 else min (w .column + 1) most) else columnOver most (if k then w .column else if eqb b 10 then 0 else min (w .column + 1) most) t)
+    go true = refl
+    go false = refl
 
-pub column-again : (k most c c′ b n z : ℕ) → (k ≡ 0 → ⊥) → 0 < n → c′ ≡ (if eqb b 10 then 0 else min (c + 1) most)
-    → columnOver k most c (replicate n b) ≡ z → columnOver k most c′ (replicate (n - 1) b) ≡ z
-column-again k most c c′ b zero z g h e inv = absurd (omega arith)
-column-again k most c c′ b (suc n) z g h e inv = let m : suc n - 1 ≡ n = omega arith in rw (m, e) (sym (column-step k most c b (replicate n b) g) ∙ inv)
+-- where columns are kept it is the text's, else it stays
+module _ (w : Fields) (most : ℕ) (t : Bytes) (k : Bool) (e : k ≡ not (eqb (w .tracks) 0)) where
+  pub past-kept : (c₀ c : ℕ) → k ≡ true → c₀ ≡ w .column → c ≡ columnOver most c₀ t → atColumn c w ≡ atColumn (columnPast w most t) w
+  unfolding columnPast
+  past-kept c₀ c f g h = go (eqb (w .tracks) 0) (sym f ∙ e)
+    where
+      go : (d : Bool) → true ≡ not d → atColumn c w ≡ atColumn (if d then w .column else columnOver most (w .column) t) w
+      go true q = absurd (true≢false q)
+      go false q = ap (λ (x : ℕ). atColumn x w) (h ∙ rw g)
+
+  pub past-none : k ≡ false → w ≡ atColumn (columnPast w most t) w
+  unfolding columnPast
+  past-none f = go (eqb (w .tracks) 0) (sym f ∙ e)
+    where
+      go : (d : Bool) → false ≡ not d → w ≡ atColumn (if d then w .column else columnOver most (w .column) t) w
+      go true q = refl
+      go false q = absurd (true≢false (sym q))
+
+past-one : (w : Fields) (most b : ℕ) → columnPast w most (b ∷ []) ≡ columnAfter w most b
+unfolding columnPast columnAfter columnOver
+past-one w most b = refl
 
 -- ---- the pen
-
-abbrev moved : Fields → ℕ → ℕ → ℕ → ℕ → Fields
-moved w n b u c =
-    record {
-      len = n;
-      last = b;
-      under = u;
-      column = c;
-      tracks = w .tracks;
-      flow = w .flow;
-      key = w .key;
-      inline = w .inline;
-      raw = w .raw;
-    }
 
 same : (w : Fields) {n n′ b b′ u u′ c c′ : ℕ} {o o′ : Bytes} → n ≡ n′ → b ≡ b′ → u ≡ u′ → c ≡ c′ → o ≡ o′ → page (moved w n b u c) o ≡ page (moved w n′ b′ u′ c′) o′
 same w e f g h i = rw (e, f, g, h, i)
@@ -140,10 +150,10 @@ module _ (o : Bytes) (len b m : ℕ) (e : m ≡ min (len + 1) (length o + 2)) wh
           List·getD-eq-default o 0 (omega (arith, g)) ∙ sym (List·getD-eq-default (set o len b) 0 (omega (arith, e, g, l)))
 
 written : (t : Bytes) (w : Fields) (o : Bytes) → 0 < length t
-    → page (moved w (min (w .len + length t) (length o + 2)) (getD t (length t - 1) 0) (getD o (w .len + length t - 1) 0) (columnOver (w .tracks) (length o + 2) (w .column) t)) (sets o (w .len) t) ≡ puts t (page w o)
-unfolding puts put1 columnOver columnAfter
+    → page (moved w (min (w .len + length t) (length o + 2)) (getD t (length t - 1) 0) (getD o (w .len + length t - 1) 0) (columnPast w (length o + 2) t)) (sets o (w .len) t) ≡ puts t (page w o)
+unfolding puts put1 columnPast
 written [] w o h = absurd (omega arith)
-written (b ∷ []) w o h = same w (omega arith) refl (ap (λ (k : ℕ). getD o k 0) (omega arith)) refl refl
+written (b ∷ []) w o h = same w (omega arith) refl (ap (λ (k : ℕ). getD o k 0) (omega arith)) (past-one w (length o + 2) b) refl
 written (b ∷ c ∷ t) w o h =
     let m : ℕ = min (w .len + 1) (length o + 2) in
     let l : length (set o (w .len) b) ≡ length o = length-set o (w .len) b in
@@ -151,7 +161,7 @@ written (b ∷ c ∷ t) w o h =
     (rw l (omega arith))
     (let e : length (b ∷ c ∷ t) - 1 ≡ suc (length (c ∷ t) - 1) = omega arith in rw e refl)
     (under-on o (w .len) b m refl (length (c ∷ t)) (omega arith))
-    (rw l refl)
+    (rw l (past-step w (length o + 2) b (c ∷ t)))
     (stored-on o (w .len) b m refl (c ∷ t))
     ∙ written (c ∷ t) (put1 (page w o) b .w) (set o (w .len) b) (omega arith)
 
@@ -160,15 +170,29 @@ unfolding puts
 no-text [] p e = refl
 no-text (b ∷ t) p e = absurd (omega arith)
 
-pub text-written : (t : Bytes) (w : Fields) (o : Bytes) (n b u c : ℕ) (o′ : Bytes) → 0 < length t
-    → n ≡ min (w .len + length t) (length o + 2) → b ≡ getD t (length t - 1) 0 → u ≡ getD o (w .len + length t - 1) 0 → c ≡ columnOver (w .tracks) (length o + 2) (w .column) t → o′ ≡ sets o (w .len) t
-    → page (moved w n b u c) o′ ≡ puts t (page w o)
-text-written t w o n b u c o′ h en eb eu ec eo = same w en eb eu ec eo ∙ written t w o h
+pub paged : {w v : Fields} {o : Bytes} → w ≡ v → page w o ≡ page v o
+paged {o = o} e = ap (λ (x : Fields). page x o) e
 
-pub again-written : (a k : ℕ) (w : Fields) (o : Bytes) (n b u c : ℕ) (o′ : Bytes) → 0 < k
-    → n ≡ min (w .len + k) (length o + 2) → b ≡ a → u ≡ getD o (w .len + k - 1) 0 → c ≡ columnOver (w .tracks) (length o + 2) (w .column) (replicate k a) → o′ ≡ sets o (w .len) (replicate k a)
-    → page (moved w n b u c) o′ ≡ puts (replicate k a) (page w o)
-again-written a k w o n b u c o′ h en eb eu ec eo =
-    let l : length (replicate k a) ≡ k = length-replicate k a in
-    let g : getD (replicate k a) (k - 1) 0 ≡ a = getD-replicate k (k - 1) a 0 (omega (arith, h)) in
-    text-written (replicate k a) w o n b u c o′ (rw l h) (rw l en) (rw l (eb ∙ sym g)) (rw l eu) ec eo
+pub len-kept : (w v : Fields) (c : ℕ) → v ≡ atColumn c w → v .len ≡ w .len
+len-kept w v c e = ap (λ (x : Fields). x .len) e
+
+-- a writer v stands at the column after the text, and r is v after so many bytes: then r is w after the text
+module _ (w v r : Fields) (o o′ : Bytes) (n e : ℕ) (f : r ≡ putTo n (e / 256) (e % 256) v) where
+  pub text-put : (t : Bytes) → 0 < length t → v ≡ atColumn (columnPast w (length o + 2) t) w
+      → n ≡ min (w .len + length t) (length o + 2) → e / 256 ≡ getD t (length t - 1) 0 → e % 256 ≡ getD o (w .len + length t - 1) 0 → o′ ≡ sets o (w .len) t
+      → page r o′ ≡ puts t (page w o)
+  text-put t h g en eb eu eo = ap (λ (x : Fields). page x o′) (f ∙ ap (putTo n (e / 256) (e % 256)) g) ∙ same w en eb eu refl eo ∙ written t w o h
+
+  pub again-put : (b k : ℕ) → 0 < k → v ≡ atColumn (columnPast w (length o + 2) (replicate k b)) w
+      → n ≡ min (w .len + k) (length o + 2) → e / 256 ≡ b → e % 256 ≡ getD o (w .len + k - 1) 0 → o′ ≡ sets o (w .len) (replicate k b)
+      → page r o′ ≡ puts (replicate k b) (page w o)
+  again-put b k h g en eb eu eo =
+      let l : length (replicate k b) ≡ k = length-replicate k b in
+      let d : getD (replicate k b) (k - 1) 0 ≡ b = getD-replicate k (k - 1) b 0 (omega (arith, h)) in
+      text-put (replicate k b) (rw l h) g (rw l en) (rw l (eb ∙ sym d)) (rw l eu) eo
+
+  pub byte-put : (b : ℕ) → v ≡ atColumn (columnPast w (length o + 2) (b ∷ [])) w
+      → n ≡ min (w .len + 1) (length o + 2) → e / 256 ≡ b → e % 256 ≡ getD o (w .len) 0 → o′ ≡ set o (w .len) b
+      → page r o′ ≡ put1 (page w o) b
+  unfolding puts
+  byte-put b g en eb eu eo = let l : w .len + 1 - 1 ≡ w .len = omega arith in text-put (b ∷ []) (omega arith) g en eb (rw l eu) eo

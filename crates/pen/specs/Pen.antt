@@ -27,20 +27,62 @@ pub record Fields : Type 0 where
   pub inline : ℕ
   pub raw : ℕ
 
--- and how it keeps that in its numbers
+-- and how it keeps that in its two numbers
 abbrev pub fields : Writer → Fields
 fields w =
     record {
-      len = w .len;
-      last = w .edge / 256;
-      under = w .edge % 256;
-      column = w .column;
-      tracks = w .mode / 2 % 2;
-      flow = w .mode / 4;
-      key = w .mode % 2;
+      len = w .counts % 4194304;
+      last = w .state / 256 % 256;
+      under = w .state % 256;
+      column = w .state / 68719476736;
+      tracks = w .state / 131072 % 2;
+      flow = w .state / 262144 % 262144;
+      key = w .state / 65536 % 2;
+      inline = w .counts / 35184372088832;
+      raw = w .counts / 4194304 % 8388608;
+    }
+
+-- the same after some bytes: their count, the last of them, what it was put over, the column
+abbrev pub moved : Fields → ℕ → ℕ → ℕ → ℕ → Fields
+moved w n b u c =
+    record {
+      len = n;
+      last = b;
+      under = u;
+      column = c;
+      tracks = w .tracks;
+      flow = w .flow;
+      key = w .key;
       inline = w .inline;
       raw = w .raw;
     }
+
+abbrev pub putTo : ℕ → ℕ → ℕ → Fields → Fields
+putTo n b u w = moved w n b u (w .column)
+
+abbrev pub atColumn : ℕ → Fields → Fields
+atColumn c w = moved w (w .len) (w .last) (w .under) c
+
+-- the same with other marks: flow depth, key, whose inline comment, where raw text ended
+abbrev pub stamped : Fields → ℕ → ℕ → ℕ → ℕ → Fields
+stamped w f k i r =
+    record {
+      len = w .len;
+      last = w .last;
+      under = w .under;
+      column = w .column;
+      tracks = w .tracks;
+      flow = f;
+      key = k;
+      inline = i;
+      raw = r;
+    }
+
+unfoldable pub withInline : ℕ → Fields → Fields
+withInline m w = stamped w (w .flow) (w .key) m (w .raw)
+
+unfoldable pub withRaw : ℕ → Fields → Fields
+withRaw m w = stamped w (w .flow) (w .key) (w .inline) m
 
 -- a writer and its slice
 pub record Pen : Type 0 where
@@ -57,27 +99,20 @@ pen w o = page (fields w) o
 unfoldable pub columnAfter : Fields → ℕ → ℕ → ℕ
 columnAfter w most b = if eqb (w .tracks) 0 then w .column else if eqb b LF then 0 else min (w .column + 1) most
 
--- the column after a text that begins at a column, where `k` says whether columns are kept
-unfoldable pub columnOver : ℕ → ℕ → ℕ → Bytes → ℕ
-columnOver k most c [] = c
-columnOver k most c (b ∷ t) = columnOver k most (if eqb k 0 then c else if eqb b LF then 0 else min (c + 1) most) t
+-- the column after a text that begins at a column, where columns are kept
+unfoldable pub columnOver : ℕ → ℕ → Bytes → ℕ
+columnOver most c [] = c
+columnOver most c (b ∷ t) = columnOver most (if eqb b LF then 0 else min (c + 1) most) t
+
+-- and of a writer that may keep none
+unfoldable pub columnPast : Fields → ℕ → Bytes → ℕ
+columnPast w most t = if eqb (w .tracks) 0 then w .column else columnOver most (w .column) t
 
 -- one byte: stored where there is room, else only counted
 unfoldable pub put1 : Pen → ℕ → Pen
 put1 p b =
-    page
-    (record {
-      len = min (p .w .len + 1) (length (p .out) + 2);
-      last = b;
-      under = getD (p .out) (p .w .len) 0;
-      column = columnAfter (p .w) (length (p .out) + 2) b;
-      tracks = p .w .tracks;
-      flow = p .w .flow;
-      key = p .w .key;
-      inline = p .w .inline;
-      raw = p .w .raw;
-    })
-    (set (p .out) (p .w .len) b)
+    let most = length (p .out) + 2 in
+    page (moved (p .w) (min (p .w .len + 1) most) b (getD (p .out) (p .w .len) 0) (columnAfter (p .w) most b)) (set (p .out) (p .w .len) b)
 
 unfoldable pub puts : Bytes → Pen → Pen
 puts [] p = p
@@ -97,34 +132,6 @@ and-then p a b e f = f ∙ ap (puts b) e ∙ sym (puts-append a b p)
 unfoldable pub lineEnded : Pen → Pen
 lineEnded p = if eqb (p .w .last) LF then p else put1 p LF
 
-unfoldable pub withInline : ℕ → Fields → Fields
-withInline m w =
-    record {
-      len = w .len;
-      last = w .last;
-      under = w .under;
-      column = w .column;
-      tracks = w .tracks;
-      flow = w .flow;
-      key = w .key;
-      inline = m;
-      raw = w .raw;
-    }
-
-unfoldable pub withRaw : ℕ → Fields → Fields
-withRaw m w =
-    record {
-      len = w .len;
-      last = w .last;
-      under = w .under;
-      column = w .column;
-      tracks = w .tracks;
-      flow = w .flow;
-      key = w .key;
-      inline = w .inline;
-      raw = m;
-    }
-
 -- the inline comment of the node at a place, unless it was the last one written
 unfoldable pub noted : ℕ → Inline → Pen → Pen
 noted place c p =
@@ -137,20 +144,7 @@ rawed t p = let q = puts t p in if endsClosed t then q else page (withRaw (q .w 
 
 -- the byte put last, taken away again
 unfoldable pub unput : Pen → Pen
-unput p =
-    page
-    (record {
-      len = p .w .len - 1;
-      last = p .w .last;
-      under = p .w .under;
-      column = p .w .column;
-      tracks = p .w .tracks;
-      flow = p .w .flow;
-      key = p .w .key;
-      inline = p .w .inline;
-      raw = p .w .raw;
-    })
-    (set (p .out) (p .w .len - 1) (p .w .under))
+unput p = page (moved (p .w) (p .w .len - 1) (p .w .last) (p .w .under) (p .w .column)) (set (p .out) (p .w .len - 1) (p .w .under))
 
 -- `finish`: the last line break is dropped, if it directly follows a raw text that has none of its own
 unfoldable pub ended : Pen → Pen
@@ -159,36 +153,10 @@ ended p = if eqb (p .w .raw) 0 then p else if eqb (p .w .len) (p .w .raw) then (
 -- ---- flow depth and key mark
 
 unfoldable pub withFlow : ℕ → Pen → Pen
-withFlow n p =
-    page
-    (record {
-      len = p .w .len;
-      last = p .w .last;
-      under = p .w .under;
-      column = p .w .column;
-      tracks = p .w .tracks;
-      flow = n;
-      key = p .w .key;
-      inline = p .w .inline;
-      raw = p .w .raw;
-    })
-    (p .out)
+withFlow n p = page (stamped (p .w) n (p .w .key) (p .w .inline) (p .w .raw)) (p .out)
 
 unfoldable pub withKey : ℕ → Pen → Pen
-withKey n p =
-    page
-    (record {
-      len = p .w .len;
-      last = p .w .last;
-      under = p .w .under;
-      column = p .w .column;
-      tracks = p .w .tracks;
-      flow = p .w .flow;
-      key = n;
-      inline = p .w .inline;
-      raw = p .w .raw;
-    })
-    (p .out)
+withKey n p = page (stamped (p .w) (p .w .flow) n (p .w .inline) (p .w .raw)) (p .out)
 
 -- ---- a script, its scalars by the bytes at a place
 

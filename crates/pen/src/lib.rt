@@ -3,33 +3,30 @@
 use terms::Terms;
 ghost use mathlib.Core.Path.{_≡_};
 ghost use Prim.Native.Nat.{_+_, _-_, _/_, _%_, _<_, _≤_, _^_, min, max};
-ghost use mathlib.Core.List.{[]};
+ghost use mathlib.Core.Bool.{not};
+ghost use mathlib.Core.List.{[], _∷_};
 ghost use lib.ListN.{length, replicate};
 ghost use lib.Seq.{sets};
 ghost use lib.Dec.{eqb, leb};
 ghost use Rattle.definition.specs.Base.{if_then_else_, spaces};
 ghost use Rattle.definition.specs.Pen.{hashed, endsClosed};
 ghost use Rattle.terms.specs.Terms.{settingsIn};
-ghost use Rattle.pen.specs.Pen.{fields, pen, put1, puts, columnAfter, columnOver, lineEnded, withFlow, withKey, noted, rawed, unput, ended};
-ghost use Rattle.pen.specs.Shown.{keeps, begun};
+ghost use Rattle.pen.specs.Pen.{fields, pen, put1, puts, columnOver, columnPast, atColumn, putTo, lineEnded, withFlow, withKey, withInline, withRaw, noted, rawed, unput, ended};
+ghost use Rattle.pen.specs.Shown.{begun};
 
-// `inline`: one more than the place of the node whose inline comment was written last, 0 at the start. `mode`: how many flow collections are open, times 4;
-// 2 where columns are kept; 1 inside an inline key. `column`: the columns since the last line break, at most the room and two; kept only where the mode
-// says so. `edge`: the byte put last, 0 at the start, times 256, and what it was put over, 0 past the room. `raw`: one more than where the last raw text
-// ended without a line break, 0 at the start. `len`: how many bytes were put, at most the room and two.
-// Two numbers hold five, since a writer goes through memory at every call; their order is for speed too (docs/DECISIONS.md).
+// A writer keeps nine numbers in two, so that it goes from call to call in two registers (docs/DECISIONS.md). What it says is `fields`.
+// `counts`: how many bytes were put, at most the room and two; 2^22 times one more than where the last raw text ended without a line break, 0 at the
+// start; 2^45 times one more than the place of the node whose inline comment was written last, 0 at the start.
+// `state`: what the byte put last was put over, 0 past the room; 2^8 times that byte, 0 at the start; 2^16 inside an inline key; 2^17 where columns are
+// kept; 2^18 times how many flow collections are open; 2^36 times the columns since the last line break, at most the room and two.
 pub struct Writer {
-    pub inline: usize,
-    pub mode: usize,
-    pub column: usize,
-    pub edge: usize,
-    pub raw: usize,
-    pub len: usize,
+    pub counts: usize,
+    pub state: usize,
 }
 
 // Two bytes in one number.
 fn edge_of(last: u8, under: u8) -> usize
-    ensures { λ r. ⌜ (r / 256 ≡ last) × (r % 256 ≡ under) ⌝ }
+    ensures { λ r. ⌜ (r / 256 ≡ last) × (r % 256 ≡ under) × (r < 65536) ⌝ }
 {
     last as usize * 256 + under as usize
 }
@@ -47,8 +44,8 @@ fn up_to(n: usize, most: usize) -> usize
 
 // The column after a byte that was at `column` before it.
 fn next_column(column: usize, most: usize, b: u8) -> usize
-    requires { ⌜ most < 2 ^ 63 ⌝ }
-    ensures { λ r. ⌜ r ≡ (if eqb b 10 then 0 else min (column + 1) most) ⌝ }
+    requires { ⌜ most < 2 ^ 28 ⌝ }
+    ensures { λ r. ⌜ (r ≡ (if eqb b 10 then 0 else min (column + 1) most)) × (r < 2 ^ 28) ⌝ }
 {
     if b == b'\n' {
         return 0;
@@ -57,13 +54,10 @@ fn next_column(column: usize, most: usize, b: u8) -> usize
 }
 
 // The column after a text.
-fn column_over(tracks: usize, column: usize, most: usize, t: &[u8]) -> usize
-    requires { ⌜ most < 2 ^ 63 ⌝ }
-    ensures { λ r. ⌜ r ≡ columnOver tracks most column (now (t .entry)) ⌝ }
+fn column_over(column: usize, most: usize, t: &[u8]) -> usize
+    requires { ⌜ (column < 2 ^ 28) × (most < 2 ^ 28) ⌝ }
+    ensures { λ r. ⌜ (r ≡ columnOver most column (now (t .entry))) × (r < 2 ^ 28) ⌝ }
 {
-    if tracks == 0 {
-        return column;
-    }
     let mut c = column;
     let mut i = 0;
     while i < t.len() {
@@ -74,13 +68,10 @@ fn column_over(tracks: usize, column: usize, most: usize, t: &[u8]) -> usize
 }
 
 // The column after one byte again and again.
-fn column_again(tracks: usize, column: usize, most: usize, b: u8, n: usize) -> usize
-    requires { ⌜ most < 2 ^ 63 ⌝ }
-    ensures { λ r. ⌜ r ≡ columnOver tracks most column (replicate n b) ⌝ }
+fn column_again(column: usize, most: usize, b: u8, n: usize) -> usize
+    requires { ⌜ (column < 2 ^ 28) × (most < 2 ^ 28) ⌝ }
+    ensures { λ r. ⌜ (r ≡ columnOver most column (replicate n b)) × (r < 2 ^ 28) ⌝ }
 {
-    if tracks == 0 {
-        return column;
-    }
     let mut c = column;
     let mut left = n;
     while left > 0 {
@@ -115,7 +106,7 @@ fn end_of(len: usize, n: usize, most: usize) -> usize
 
 // Copies a text to a place.
 fn copy_to(out: &mut [u8], at: usize, t: &[u8])
-    requires { ⌜ (at + length (now t) ≤ length (now out)) × (length (now out) < 2 ^ 62) ⌝ }
+    requires { ⌜ (at + length (now t) ≤ length (now out)) × (length (now out) < 2 ^ 21) ⌝ }
     ensures { λ r. ⌜ now (out .exit) ≡ sets (now (out .entry)) at (now (t .entry)) ⌝ }
 {
     let mut i = 0;
@@ -127,7 +118,7 @@ fn copy_to(out: &mut [u8], at: usize, t: &[u8])
 
 // Stores one byte again and again from a place.
 fn fill(out: &mut [u8], at: usize, b: u8, n: usize)
-    requires { ⌜ (at + n ≤ length (now out)) × (length (now out) < 2 ^ 62) ⌝ }
+    requires { ⌜ (at + n ≤ length (now out)) × (length (now out) < 2 ^ 21) ⌝ }
     ensures { λ r. ⌜ now (out .exit) ≡ sets (now (out .entry)) at (replicate n b) ⌝ }
 {
     let mut i = 0;
@@ -139,7 +130,7 @@ fn fill(out: &mut [u8], at: usize, b: u8, n: usize)
 
 // Copies of a text what has room, where not all of it has.
 fn copy_part(out: &mut [u8], at: usize, t: &[u8])
-    requires { ⌜ (length (now out) < at + length (now t)) × (length (now out) < 2 ^ 62) ⌝ }
+    requires { ⌜ (length (now out) < at + length (now t)) × (length (now out) < 2 ^ 21) ⌝ }
     ensures { λ r. ⌜ now (out .exit) ≡ sets (now (out .entry)) at (now (t .entry)) ⌝ }
 {
     if at < out.len() {
@@ -150,7 +141,7 @@ fn copy_part(out: &mut [u8], at: usize, t: &[u8])
 
 // Stores one byte again and again from a place to the end.
 fn fill_up(out: &mut [u8], at: usize, b: u8)
-    requires { ⌜ length (now out) < 2 ^ 62 ⌝ }
+    requires { ⌜ length (now out) < 2 ^ 21 ⌝ }
     ensures { λ r. ⌜ now (out .exit) ≡ sets (now (out .entry)) at (replicate (length (now (out .entry)) - at) b) ⌝ }
 {
     if at < out.len() {
@@ -159,65 +150,87 @@ fn fill_up(out: &mut [u8], at: usize, b: u8)
     }
 }
 
-// The mode of a new writer: columns are kept where lines are folded.
-fn first_mode(width: usize) -> usize
-    ensures { λ r. ⌜ (r / 4 ≡ 0) × (r / 2 % 2 ≡ keeps width) × (r % 2 ≡ 0) ⌝ }
-{
-    if width == 0 {
-        return 0;
-    }
-    2
-}
-
-// A writer that has written nothing.
+// A writer that has written nothing: columns are kept where lines are folded.
 pub fn fresh_writer(terms: Terms) -> Writer
     ensures { λ r. ⌜ fields r ≡ begun (settingsIn terms) ⌝ }
 {
+    if terms.width() == 0 {
+        return Writer {
+            counts: 0,
+            state: 0,
+        };
+    }
     Writer {
-        inline: 0,
-        mode: first_mode(terms.width()),
-        column: 0,
-        edge: 0,
-        raw: 0,
-        len: 0,
+        counts: 0,
+        state: 131072,
     }
 }
 
 impl Writer {
-    // The same writer, made anew of its fields: of what comes from a call the compiler then reads the numbers, and copies no memory.
+    // The same writer, made anew of its numbers: of what comes from a call the compiler then reads the numbers, and copies no memory.
     pub fn anew(self) -> Self
         ensures { λ r. ⌜ r ≡ self ⌝ }
     {
         Writer {
-            inline: self.inline,
-            mode: self.mode,
-            column: self.column,
-            edge: self.edge,
-            raw: self.raw,
-            len: self.len,
+            counts: self.counts,
+            state: self.state,
         }
+    }
+
+    // How many bytes were put.
+    pub fn len(self) -> usize
+        ensures { λ r. ⌜ (r ≡ fields self .len) × (r < 2 ^ 22) ⌝ }
+    {
+        self.counts % 4194304
+    }
+
+    pub fn column(self) -> usize
+        ensures { λ r. ⌜ (r ≡ fields self .column) × (r < 2 ^ 28) ⌝ }
+    {
+        self.state / 68719476736
     }
 
     // How many flow collections are open.
     pub fn flow(self) -> usize
         ensures { λ r. ⌜ r ≡ fields self .flow ⌝ }
     {
-        self.mode / 4
+        self.state / 262144 % 262144
     }
 
     // Not 0 inside an inline key.
     pub fn key(self) -> usize
         ensures { λ r. ⌜ r ≡ fields self .key ⌝ }
     {
-        self.mode % 2
+        self.state / 65536 % 2
+    }
+
+    // Columns are kept.
+    fn is_tracking(self) -> bool
+        ensures { λ r. ⌜ r ≡ not (eqb (fields self .tracks) 0) ⌝ }
+    {
+        self.state / 131072 % 2 != 0
+    }
+
+    // The byte put last.
+    fn last(self) -> usize
+        ensures { λ r. ⌜ r ≡ fields self .last ⌝ }
+    {
+        self.state / 256 % 256
+    }
+
+    // One more than where the last raw text ended without a line break, 0 at the start.
+    fn raw(self) -> usize
+        ensures { λ r. ⌜ r ≡ fields self .raw ⌝ }
+    {
+        self.counts / 4194304 % 8388608
     }
 
     // The same with another depth of flow collections, or another key mark.
     pub fn with_flow(mut self, n: usize) -> Self
-        requires { ⌜ n < 2 ^ 60 ⌝ }
+        requires { ⌜ n < 2 ^ 18 ⌝ }
         ensures { λ r. ⌜ pen r [] ≡ withFlow n (pen self []) ⌝ }
     {
-        self.mode = n * 4 + self.mode % 4;
+        self.state = self.state / 68719476736 * 68719476736 + n * 262144 + self.state % 262144;
         self
     }
 
@@ -225,97 +238,156 @@ impl Writer {
         requires { ⌜ n < 2 ⌝ }
         ensures { λ r. ⌜ pen r [] ≡ withKey n (pen self []) ⌝ }
     {
-        self.mode = self.mode - self.mode % 2 + n;
+        self.state = self.state / 131072 * 131072 + n * 65536 + self.state % 65536;
         self
     }
 
-    // The column after a byte.
-    fn column_after(self, most: usize, b: u8) -> usize
-        requires { ⌜ most < 2 ^ 63 ⌝ }
-        ensures { λ r. ⌜ r ≡ columnAfter (fields self) most b ⌝ }
+    // The same after another inline comment, or another raw text.
+    fn with_inline(mut self, mark: usize) -> Self
+        requires { ⌜ mark < 2 ^ 19 ⌝ }
+        ensures { λ r. ⌜ fields r ≡ withInline mark (fields self) ⌝ }
     {
-        if self.mode / 2 % 2 == 0 {
-            return self.column;
-        }
-        next_column(self.column, most, b)
+        self.counts = mark * 35184372088832 + self.counts % 35184372088832;
+        self
     }
 
-    pub fn byte(mut self, out: &mut [u8], b: u8) -> Self
-        requires { ⌜ length (now out) < 2 ^ 62 ⌝ }
+    fn with_raw(mut self, mark: usize) -> Self
+        requires { ⌜ mark < 2 ^ 23 ⌝ }
+        ensures { λ r. ⌜ fields r ≡ withRaw mark (fields self) ⌝ }
+    {
+        self.counts = self.counts / 35184372088832 * 35184372088832
+            + mark * 4194304
+            + self.counts % 4194304;
+        self
+    }
+
+    // The same at another column.
+    pub fn at_column(mut self, column: usize) -> Self
+        requires { ⌜ column < 2 ^ 28 ⌝ }
+        ensures { λ r. ⌜ fields r ≡ atColumn column (fields self) ⌝ }
+    {
+        self.state = column * 68719476736 + self.state % 68719476736;
+        self
+    }
+
+    // The same after so many bytes, of which `edge` has the last one and what it was put over.
+    fn put_to(mut self, len: usize, edge: usize) -> Self
+        requires { ⌜ (len < 2 ^ 22) × (edge < 65536) ⌝ }
+        ensures { λ r. ⌜ fields r ≡ putTo len (edge / 256) (edge % 256) (fields self) ⌝ }
+    {
+        self.counts = self.counts / 4194304 * 4194304 + len;
+        self.state = self.state / 65536 * 65536 + edge;
+        self
+    }
+
+    // The same after n bytes more.
+    fn put_on(mut self, n: usize, edge: usize) -> Self
+        requires { ⌜ (fields self .len + n < 2 ^ 22) × (edge < 65536) ⌝ }
+        ensures { λ r. ⌜ fields r ≡ putTo (fields self .len + n) (edge / 256) (edge % 256) (fields self) ⌝ }
+    {
+        self.counts += n;
+        self.state = self.state / 65536 * 65536 + edge;
+        self
+    }
+
+    // The same at the column after a byte, a text, or one byte again and again.
+    fn past_byte(self, most: usize, b: u8) -> Self
+        requires { ⌜ most < 2 ^ 28 ⌝ }
+        ensures { λ r. ⌜ fields r ≡ atColumn (columnPast (fields self) most (b ∷ [])) (fields self) ⌝ }
+    {
+        if self.is_tracking() {
+            return self.at_column(next_column(self.column(), most, b));
+        }
+        self
+    }
+
+    fn past_text(self, most: usize, t: &[u8]) -> Self
+        requires { ⌜ most < 2 ^ 28 ⌝ }
+        ensures { λ r. ⌜ fields r ≡ atColumn (columnPast (fields self) most (now (t .entry))) (fields self) ⌝ }
+    {
+        if self.is_tracking() {
+            return self.at_column(column_over(self.column(), most, t));
+        }
+        self
+    }
+
+    fn past_again(self, most: usize, b: u8, n: usize) -> Self
+        requires { ⌜ most < 2 ^ 28 ⌝ }
+        ensures { λ r. ⌜ fields r ≡ atColumn (columnPast (fields self) most (replicate n b)) (fields self) ⌝ }
+    {
+        if self.is_tracking() {
+            return self.at_column(column_again(self.column(), most, b, n));
+        }
+        self
+    }
+
+    pub fn byte(self, out: &mut [u8], b: u8) -> Self
+        requires { ⌜ length (now out) < 2 ^ 21 ⌝ }
         ensures { λ r. ⌜ pen r (now (out .exit)) ≡ put1 (pen self (now (out .entry))) b ⌝ }
     {
         let most = out.len() + 2;
-        let len = self.len;
-        let column = self.column_after(most, b);
-        self.column = column;
-        self.len = up_to(len, most);
+        let len = self.len();
+        let w = self.past_byte(most, b);
         if len < out.len() {
-            self.edge = edge_of(b, out[len]);
+            let edge = edge_of(b, out[len]);
             out[len] = b;
-            return self;
+            return w.put_on(1, edge);
         }
-        self.edge = edge_of(b, 0);
-        self
+        w.put_to(up_to(len, most), edge_of(b, 0))
     }
 
-    pub fn text(mut self, out: &mut [u8], t: &[u8]) -> Self
-        requires { ⌜ length (now out) < 2 ^ 62 ⌝ }
+    pub fn text(self, out: &mut [u8], t: &[u8]) -> Self
+        requires { ⌜ length (now out) < 2 ^ 21 ⌝ }
         ensures { λ r. ⌜ pen r (now (out .exit)) ≡ puts (now (t .entry)) (pen self (now (out .entry))) ⌝ }
     {
         let n = t.len();
         if n == 0 {
             return self;
         }
-        let len = self.len;
+        let len = self.len();
         let most = out.len() + 2;
-        self.column = column_over(self.mode / 2 % 2, self.column, most, t);
+        let w = self.past_text(most, t);
         if has_room(len, n, out.len()) {
-            self.edge = edge_of(t[n - 1], out[len + n - 1]);
-            self.len = len + n;
+            let edge = edge_of(t[n - 1], out[len + n - 1]);
             copy_to(out, len, t);
-            return self;
+            return w.put_on(n, edge);
         }
-        self.edge = edge_of(t[n - 1], 0);
-        self.len = end_of(len, n, most);
         copy_part(out, len, t);
-        self
+        w.put_to(end_of(len, n, most), edge_of(t[n - 1], 0))
     }
 
     // One byte again and again.
-    pub fn again(mut self, out: &mut [u8], b: u8, n: usize) -> Self
-        requires { ⌜ length (now out) < 2 ^ 62 ⌝ }
+    pub fn again(self, out: &mut [u8], b: u8, n: usize) -> Self
+        requires { ⌜ length (now out) < 2 ^ 21 ⌝ }
         ensures { λ r. ⌜ pen r (now (out .exit)) ≡ puts (replicate n b) (pen self (now (out .entry))) ⌝ }
     {
         if n == 0 {
             return self;
         }
-        let len = self.len;
+        let len = self.len();
         let most = out.len() + 2;
-        self.column = column_again(self.mode / 2 % 2, self.column, most, b, n);
+        let w = self.past_again(most, b, n);
         if has_room(len, n, out.len()) {
-            self.edge = edge_of(b, out[len + n - 1]);
-            self.len = len + n;
+            let edge = edge_of(b, out[len + n - 1]);
             fill(out, len, b, n);
-            return self;
+            return w.put_on(n, edge);
         }
-        self.edge = edge_of(b, 0);
-        self.len = end_of(len, n, most);
         fill_up(out, len, b);
-        self
+        w.put_to(end_of(len, n, most), edge_of(b, 0))
     }
 
     pub fn spaces(self, out: &mut [u8], n: usize) -> Self
-        requires { ⌜ length (now out) < 2 ^ 62 ⌝ }
+        requires { ⌜ length (now out) < 2 ^ 21 ⌝ }
         ensures { λ r. ⌜ pen r (now (out .exit)) ≡ puts (spaces n) (pen self (now (out .entry))) ⌝ }
     {
         self.again(out, b' ', n)
     }
 
     pub fn end_line(self, out: &mut [u8]) -> Self
-        requires { ⌜ length (now out) < 2 ^ 62 ⌝ }
+        requires { ⌜ length (now out) < 2 ^ 21 ⌝ }
         ensures { λ r. ⌜ pen r (now (out .exit)) ≡ lineEnded (pen self (now (out .entry))) ⌝ }
     {
-        if self.edge / 256 == 10 {
+        if self.last() == 10 {
             return self;
         }
         self.byte(out, b'\n')
@@ -323,7 +395,7 @@ impl Writer {
 
     // `#`, and the text where there is one.
     pub fn hashed(self, out: &mut [u8], t: &[u8]) -> Self
-        requires { ⌜ length (now out) < 2 ^ 62 ⌝ }
+        requires { ⌜ length (now out) < 2 ^ 21 ⌝ }
         ensures { λ r. ⌜ pen r (now (out .exit)) ≡ puts (hashed (now (t .entry))) (pen self (now (out .entry))) ⌝ }
     {
         let w = self.byte(out, b'#');
@@ -336,40 +408,38 @@ impl Writer {
 
     // The inline comment of the node at `place`, unless it was the last one written.
     pub fn comment(self, out: &mut [u8], place: usize, before: usize, t: &[u8]) -> Self
-        requires { ⌜ (length (now out) < 2 ^ 62) × (place < 2 ^ 62) ⌝ }
+        requires { ⌜ (length (now out) < 2 ^ 21) × (place < 2 ^ 18) ⌝ }
         ensures { λ r. ⌜ pen r (now (out .exit)) ≡ noted place (record { text = now (t .entry); spaces = before }) (pen self (now (out .entry))) ⌝ }
     {
         let mark = place + 1;
-        if self.inline == mark {
+        if self.counts / 35184372088832 == mark {
             return self;
         }
         let w = self.spaces(out, at_least_one(before));
-        let mut w2 = w.hashed(out, t);
-        w2.inline = mark;
-        w2
+        let w2 = w.hashed(out, t);
+        w2.with_inline(mark)
     }
 
     // A raw text, and where it ended if it has no line break there.
     pub fn replay(self, out: &mut [u8], t: &[u8]) -> Self
-        requires { ⌜ (length (now out) < 2 ^ 62) × (self .len < 2 ^ 62) ⌝ }
+        requires { ⌜ length (now out) < 2 ^ 21 ⌝ }
         ensures { λ r. ⌜ pen r (now (out .exit)) ≡ rawed (now (t .entry)) (pen self (now (out .entry))) ⌝ }
     {
-        let mut w = self.text(out, t);
+        let w = self.text(out, t);
         if ends_closed(t) {
             return w;
         }
-        w.raw = w.len + 1;
-        w
+        w.with_raw(w.len() + 1)
     }
 
     // Takes the byte put last away again, and puts back what it was put over.
     fn dropped(mut self, out: &mut [u8]) -> Self
-        requires { ⌜ 0 < self .len ⌝ }
+        requires { ⌜ 0 < fields self .len ⌝ }
         ensures { λ r. ⌜ pen r (now (out .exit)) ≡ unput (pen self (now (out .entry))) ⌝ }
     {
-        let len = self.len - 1;
-        let under = (self.edge % 256) as u8;
-        self.len = len;
+        let len = self.len() - 1;
+        let under = (self.state % 256) as u8;
+        self.counts -= 1;
         if len < out.len() {
             out[len] = under;
         }
@@ -380,13 +450,13 @@ impl Writer {
     pub fn finish(self, out: &mut [u8]) -> Self
         ensures { λ r. ⌜ pen r (now (out .exit)) ≡ ended (pen self (now (out .entry))) ⌝ }
     {
-        if self.raw == 0 {
+        if self.raw() == 0 {
             return self;
         }
-        if self.len != self.raw {
+        if self.len() != self.raw() {
             return self;
         }
-        if self.edge / 256 != 10 {
+        if self.last() != 10 {
             return self;
         }
         self.dropped(out)

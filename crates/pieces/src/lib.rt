@@ -170,7 +170,7 @@ pub fn others(p: Piece) -> usize
 }
 
 fn put_pair(w: Writer, out: &mut [u8], a: u8, b: u8) -> Writer
-    requires { ⌜ length (now out) < 2 ^ 62 ⌝ }
+    requires { ⌜ length (now out) < 2 ^ 21 ⌝ }
     ensures { λ r. ⌜ pen r (now (out .exit)) ≡ puts (a ∷ b ∷ []) (pen w (now (out .entry))) ⌝ }
 {
     let w = w.byte(out, a);
@@ -178,14 +178,14 @@ fn put_pair(w: Writer, out: &mut [u8], a: u8, b: u8) -> Writer
 }
 
 fn put_hex2(w: Writer, out: &mut [u8], n: u8) -> Writer
-    requires { ⌜ length (now out) < 2 ^ 62 ⌝ }
+    requires { ⌜ length (now out) < 2 ^ 21 ⌝ }
     ensures { λ r. ⌜ pen r (now (out .exit)) ≡ puts (hex2 n) (pen w (now (out .entry))) ⌝ }
 {
     put_pair(w, out, hex_digit(n / 16), hex_digit(n % 16))
 }
 
 fn put_x(w: Writer, out: &mut [u8], n: u8) -> Writer
-    requires { ⌜ length (now out) < 2 ^ 62 ⌝ }
+    requires { ⌜ length (now out) < 2 ^ 21 ⌝ }
     ensures { λ r. ⌜ pen r (now (out .exit)) ≡ puts (92 ∷ 120 ∷ hex2 n) (pen w (now (out .entry))) ⌝ }
 {
     let w = put_pair(w, out, b'\\', b'x');
@@ -194,7 +194,7 @@ fn put_x(w: Writer, out: &mut [u8], n: u8) -> Writer
 
 // `\u` and four digits, of FF40 and the byte.
 fn put_u(w: Writer, out: &mut [u8], c: u8) -> Writer
-    requires { ⌜ (0xbe ≤ c) × (c ≤ 0xbf) × (length (now out) < 2 ^ 62) ⌝ }
+    requires { ⌜ (0xbe ≤ c) × (c ≤ 0xbf) × (length (now out) < 2 ^ 21) ⌝ }
     ensures { λ r. ⌜ pen r (now (out .exit)) ≡ puts (92 ∷ 117 ∷ hex4 (0xff40 + c)) (pen w (now (out .entry))) ⌝ }
 {
     let w = put_pair(w, out, b'\\', b'u');
@@ -203,7 +203,7 @@ fn put_u(w: Writer, out: &mut [u8], c: u8) -> Writer
 }
 
 pub fn put_piece(w: Writer, out: &mut [u8], p: Piece) -> Writer
-    requires { ⌜ sound p × (length (now out) < 2 ^ 62) ⌝ }
+    requires { ⌜ sound p × (length (now out) < 2 ^ 21) ⌝ }
     ensures { λ r. ⌜ pen r (now (out .exit)) ≡ puts (spell p) (pen w (now (out .entry))) ⌝ }
 {
     match p {
@@ -217,7 +217,7 @@ pub fn put_piece(w: Writer, out: &mut [u8], p: Piece) -> Writer
 
 // A byte between single quotes.
 pub fn put_single(w: Writer, out: &mut [u8], a: u8) -> Writer
-    requires { ⌜ length (now out) < 2 ^ 62 ⌝ }
+    requires { ⌜ length (now out) < 2 ^ 21 ⌝ }
     ensures { λ r. ⌜ pen r (now (out .exit)) ≡ puts (singlePiece a 0 0) (pen w (now (out .entry))) ⌝ }
 {
     if a == b'\'' {

@@ -34,7 +34,7 @@ pub record Passing (s : Bytes) (i : ℕ) (l : Line) (out : Bytes) : Type 0 where
   pub inside : i < length s
   pub short : length s ≤ 65536
   pub near : l .col ≤ 2 ^ 63 + 2 ^ 20
-  pub room : length out < 2 ^ 62
+  pub room : length out < 2 ^ 21
 
 -- a turn of the folding
 pub record Onward (q : Quote) (f : Fold) (s : Bytes) (i : ℕ) (l : Line) (out : Bytes) (r : Line) (out′ : Bytes) : Type 0 where

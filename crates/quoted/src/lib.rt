@@ -3,7 +3,7 @@ ghost use mathlib.Core.Path.{_≡_};
 ghost use mathlib.Core.Bool.{true, false};
 ghost use Prim.Native.Nat.{_+_, _*_, _^_, _≤_, _<_};
 ghost use lib.ListN.{length, getD, drop};
-ghost use Rattle.pen.specs.Pen.{pen, puts};
+ghost use Rattle.pen.specs.Pen.{fields, pen, puts};
 ghost use Rattle.definition.specs.Fold.{breakable, hasBreakable};
 ghost use Rattle.definition.specs.Settings.{folds};
 ghost use Rattle.laws.specs.Pieces.{quoteBy, body};
@@ -34,7 +34,7 @@ pub struct Going {
 
 // The piece for the byte at a place. Between single quotes it is written at once: there a piece is one byte, or two.
 fn piece_turn(w: Writer, out: &mut [u8], t: &[u8], i: usize, single: bool) -> Going
-    requires { ⌜ (i < length (now t)) × (length (now t) ≤ 65536) × (length (now out) < 2 ^ 62) ⌝ }
+    requires { ⌜ (i < length (now t)) × (length (now t) ≤ 65536) × (length (now out) < 2 ^ 21) ⌝ }
     ensures { λ r. ⌜ Further (quoteBy single) (now (t .entry)) i w (now (out .entry)) r (now (out .exit)) ⌝ }
 {
     if single {
@@ -52,7 +52,7 @@ fn piece_turn(w: Writer, out: &mut [u8], t: &[u8], i: usize, single: bool) -> Go
 
 // The bytes that are written as they are, or else one piece.
 fn body_turn(w: Writer, out: &mut [u8], t: &[u8], i: usize, single: bool) -> Going
-    requires { ⌜ (i < length (now t)) × (length (now t) ≤ 65536) × (length (now out) < 2 ^ 62) ⌝ }
+    requires { ⌜ (i < length (now t)) × (length (now t) ≤ 65536) × (length (now out) < 2 ^ 21) ⌝ }
     ensures { λ r. ⌜ Further (quoteBy single) (now (t .entry)) i w (now (out .entry)) r (now (out .exit)) ⌝ }
 {
     let j = run_end(t, i, quote_of(single), single);
@@ -67,7 +67,7 @@ fn body_turn(w: Writer, out: &mut [u8], t: &[u8], i: usize, single: bool) -> Goi
 
 // The body of a text, not folded.
 pub fn put_body(w: Writer, out: &mut [u8], t: &[u8], single: bool) -> Writer
-    requires { ⌜ (length (now t) ≤ 65536) × (length (now out) < 2 ^ 62) ⌝ }
+    requires { ⌜ (length (now t) ≤ 65536) × (length (now out) < 2 ^ 21) ⌝ }
     ensures { λ r. ⌜ pen r (now (out .exit)) ≡ puts (body (quoteBy single) 0 (now (t .entry))) (pen w (now (out .entry))) ⌝ }
 {
     let mut g = Going { w: w, at: 0 };
@@ -244,7 +244,7 @@ pub fn put_folded(
     start: usize,
     f: Fold,
 ) -> Writer
-    requires { ⌜ (length (now t) ≤ 65536) × (start ≤ 2 ^ 63) × (f .indent ≤ 2 ^ 63) × (length (now out) < 2 ^ 62) ⌝ }
+    requires { ⌜ (length (now t) ≤ 65536) × (start ≤ 2 ^ 63) × (f .indent ≤ 2 ^ 63) × (length (now out) < 2 ^ 21) ⌝ }
     ensures { λ r. ⌜ pen r (now (out .exit)) ≡ puts (foldedOf (quoteBy single) (folding f) 0 true start (now (t .entry))) (pen w (now (out .entry))) ⌝ }
 {
     let mut l = Line {
@@ -272,7 +272,7 @@ pub fn will_fold(terms: Terms, key: bool) -> bool
 
 // A text in quotes, not folded.
 fn put_quoted(w: Writer, out: &mut [u8], t: &[u8], single: bool) -> Writer
-    requires { ⌜ (length (now t) ≤ 65536) × (length (now out) < 2 ^ 62) ⌝ }
+    requires { ⌜ (length (now t) ≤ 65536) × (length (now out) < 2 ^ 21) ⌝ }
     ensures { λ r. ⌜ pen r (now (out .exit)) ≡ puts (quotedAt single (now (t .entry))) (pen w (now (out .entry))) ⌝ }
 {
     let q = quote_of(single);
@@ -283,10 +283,10 @@ fn put_quoted(w: Writer, out: &mut [u8], t: &[u8], single: bool) -> Writer
 
 // A text in quotes, folded: continued lines stand at the quote's column, but never at 0.
 fn put_quoted_folded(w: Writer, out: &mut [u8], terms: Terms, t: &[u8], single: bool) -> Writer
-    requires { ⌜ (length (now t) ≤ 65536) × (w .column < 2 ^ 63) × (length (now out) < 2 ^ 62) ⌝ }
-    ensures { λ r. ⌜ pen r (now (out .exit)) ≡ puts (foldedAt (settingsIn terms) single (now (t .entry)) (w .column)) (pen w (now (out .entry))) ⌝ }
+    requires { ⌜ (length (now t) ≤ 65536) × (length (now out) < 2 ^ 21) ⌝ }
+    ensures { λ r. ⌜ pen r (now (out .exit)) ≡ puts (foldedAt (settingsIn terms) single (now (t .entry)) (fields w .column)) (pen w (now (out .entry))) ⌝ }
 {
-    let column = w.column;
+    let column = w.column();
     let f = Fold {
         indent: pen::at_least_one(column),
         width: terms.width(),
@@ -306,8 +306,8 @@ pub fn put_styled(
     single: bool,
     t: &[u8],
 ) -> Writer
-    requires { ⌜ (length (now t) ≤ 65536) × (w .column < 2 ^ 63) × (length (now out) < 2 ^ 62) ⌝ }
-    ensures { λ r. ⌜ pen r (now (out .exit)) ≡ puts (styledAt (settingsIn terms) key single (now (t .entry)) (w .column)) (pen w (now (out .entry))) ⌝ }
+    requires { ⌜ (length (now t) ≤ 65536) × (length (now out) < 2 ^ 21) ⌝ }
+    ensures { λ r. ⌜ pen r (now (out .exit)) ≡ puts (styledAt (settingsIn terms) key single (now (t .entry)) (fields w .column)) (pen w (now (out .entry))) ⌝ }
 {
     if will_fold(terms, key) {
         return put_quoted_folded(w, out, terms, t, single);

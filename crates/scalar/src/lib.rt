@@ -10,9 +10,9 @@ ghost use Rattle.definition.specs.Fold.{size, hasBreakable};
 ghost use Rattle.definition.specs.Block.{blockHeader, blockBody};
 ghost use Rattle.definition.specs.Settings.{weightOf, folds};
 ghost use Rattle.definition.specs.Scalar.{startsBom, unsafeInFlow, mustQuote, separator};
-ghost use Rattle.laws.specs.Leaf.{quotableAt, quotedAt, styledAt, ownAt, scalarBytes};
+ghost use Rattle.laws.specs.Leaf.{quotableAt, quotedAt, ownAt, scalarBytes};
 ghost use Rattle.terms.specs.Terms.{settingsIn};
-ghost use Rattle.pen.specs.Pen.{pen, puts};
+ghost use Rattle.pen.specs.Pen.{fields, pen, puts};
 ghost use Rattle.scalar.specs.Tests.{refusedAt, flowMark, unsafeAt};
 use blocks::put_block_body;
 use blocks::put_header;
@@ -172,32 +172,23 @@ fn prefers_single(terms: Terms, t: &[u8]) -> bool
     false
 }
 
-// A text in quotes. Here and in `put_lined` the writer is handed on made anew: so it need not be in memory where a plain text is written.
-fn put_quotes(w: Writer, out: &mut [u8], terms: Terms, key: bool, single: bool, t: &[u8]) -> Writer
-    requires { ⌜ (length (now t) ≤ 65536) × (w .column < 2 ^ 63) × (length (now out) < 2 ^ 62) ⌝ }
-    ensures { λ r. ⌜ pen r (now (out .exit)) ≡ puts (styledAt (settingsIn terms) key single (now (t .entry)) (w .column)) (pen w (now (out .entry))) ⌝ }
-{
-    let u = w.anew();
-    put_styled(u, out, terms, key, single, t)
-}
-
 // A text that has no quotes of its own, quoted as the settings ask.
 fn put_own(w: Writer, out: &mut [u8], terms: Terms, key: bool, t: &[u8]) -> Writer
-    requires { ⌜ (length (now t) ≤ 65536) × (w .column < 2 ^ 63) × (length (now out) < 2 ^ 62) ⌝ }
-    ensures { λ r. ⌜ pen r (now (out .exit)) ≡ puts (ownAt (settingsIn terms) key (now (t .entry)) (w .column)) (pen w (now (out .entry))) ⌝ }
+    requires { ⌜ (length (now t) ≤ 65536) × (length (now out) < 2 ^ 21) ⌝ }
+    ensures { λ r. ⌜ pen r (now (out .exit)) ≡ puts (ownAt (settingsIn terms) key (now (t .entry)) (fields w .column)) (pen w (now (out .entry))) ⌝ }
 {
     let single = prefers_single(terms, t);
-    put_quotes(w, out, terms, key, single, t)
+    put_styled(w, out, terms, key, single, t)
 }
 
 // A plain scalar: as it is, unless it must be quoted.
 fn put_plain(w: Writer, out: &mut [u8], terms: Terms, flow: bool, key: bool, t: &[u8]) -> Writer
-    requires { ⌜ (length (now t) ≤ 65536) × (w .column < 2 ^ 63) × (length (now out) < 2 ^ 62) ⌝ }
+    requires { ⌜ (length (now t) ≤ 65536) × (length (now out) < 2 ^ 21) ⌝ }
     ensures { λ r. ⌜ pen r (now (out .exit)) ≡ puts
-        (if mustQuote (settingsIn terms) flow key (now (t .entry)) (w .column) then ownAt (settingsIn terms) key (now (t .entry)) (w .column) else now (t .entry))
+        (if mustQuote (settingsIn terms) flow key (now (t .entry)) (fields w .column) then ownAt (settingsIn terms) key (now (t .entry)) (fields w .column) else now (t .entry))
         (pen w (now (out .entry))) ⌝ }
 {
-    if must_quote(terms, flow, key, t, w.column) {
+    if must_quote(terms, flow, key, t, w.column()) {
         return put_own(w, out, terms, key, t);
     }
     w.text(out, t)
@@ -213,7 +204,7 @@ fn put_block(
     marker: u8,
     indent: usize,
 ) -> Writer
-    requires { ⌜ (length (now t) ≤ 65536) × (w .column < 2 ^ 63) × (length (now out) < 2 ^ 62) ⌝ }
+    requires { ⌜ (length (now t) ≤ 65536) × (length (now out) < 2 ^ 21) ⌝ }
     ensures { λ r. ⌜ pen r (now (out .exit)) ≡ puts
         (if flow then quotedAt false (now (t .entry)) else blockHeader marker (now (t .entry)) ++ blockBody indent (now (t .entry)))
         (pen w (now (out .entry))) ⌝ }
@@ -223,24 +214,6 @@ fn put_block(
     }
     let w = put_header(w, out, t, marker);
     put_block_body(w, out, t, indent)
-}
-
-fn put_lined(
-    w: Writer,
-    out: &mut [u8],
-    terms: Terms,
-    flow: bool,
-    t: &[u8],
-    marker: u8,
-    indent: usize,
-) -> Writer
-    requires { ⌜ (length (now t) ≤ 65536) × (w .column < 2 ^ 63) × (length (now out) < 2 ^ 62) ⌝ }
-    ensures { λ r. ⌜ pen r (now (out .exit)) ≡ puts
-        (if flow then quotedAt false (now (t .entry)) else blockHeader marker (now (t .entry)) ++ blockBody indent (now (t .entry)))
-        (pen w (now (out .entry))) ⌝ }
-{
-    let u = w.anew();
-    put_block(u, out, terms, flow, t, marker, indent)
 }
 
 // A scalar, in flow or not, in a key or not; `indent` is the column of a block scalar's lines.
@@ -254,15 +227,15 @@ pub fn put_scalar(
     style: Style,
     indent: usize,
 ) -> Writer
-    requires { ⌜ (length (now t) ≤ 65536) × (w .column < 2 ^ 63) × (length (now out) < 2 ^ 62) ⌝ }
-    ensures { λ r. ⌜ pen r (now (out .exit)) ≡ puts (scalarBytes (settingsIn terms) flow key (now (t .entry)) style indent (w .column)) (pen w (now (out .entry))) ⌝ }
+    requires { ⌜ (length (now t) ≤ 65536) × (length (now out) < 2 ^ 21) ⌝ }
+    ensures { λ r. ⌜ pen r (now (out .exit)) ≡ puts (scalarBytes (settingsIn terms) flow key (now (t .entry)) style indent (fields w .column)) (pen w (now (out .entry))) ⌝ }
 {
     match style {
         Style::Plain => put_plain(w, out, terms, flow, key, t),
-        Style::Single => put_quotes(w, out, terms, key, true, t),
-        Style::Double => put_quotes(w, out, terms, key, false, t),
-        Style::Literal => put_lined(w, out, terms, flow, t, b'|', indent),
-        Style::Folded => put_lined(w, out, terms, flow, t, b'>', indent),
+        Style::Single => put_styled(w, out, terms, key, true, t),
+        Style::Double => put_styled(w, out, terms, key, false, t),
+        Style::Literal => put_block(w, out, terms, flow, t, b'|', indent),
+        Style::Folded => put_block(w, out, terms, flow, t, b'>', indent),
     }
 }
 
@@ -279,10 +252,10 @@ fn line_full(terms: Terms, key: bool, column: usize) -> bool
 
 // The comma between two flow entries, and a space, or a line break and an indent where the line is full.
 pub fn put_separator(w: Writer, out: &mut [u8], terms: Terms, key: bool, indent: usize) -> Writer
-    requires { ⌜ (w .column < 2 ^ 63) × (length (now out) < 2 ^ 62) ⌝ }
-    ensures { λ r. ⌜ pen r (now (out .exit)) ≡ puts (separator (settingsIn terms) key indent (w .column)) (pen w (now (out .entry))) ⌝ }
+    requires { ⌜ length (now out) < 2 ^ 21 ⌝ }
+    ensures { λ r. ⌜ pen r (now (out .exit)) ≡ puts (separator (settingsIn terms) key indent (fields w .column)) (pen w (now (out .entry))) ⌝ }
 {
-    let full = line_full(terms, key, w.column);
+    let full = line_full(terms, key, w.column());
     let w = w.byte(out, b',');
     if full {
         let w = w.byte(out, b'\n');

@@ -1,8 +1,7 @@
--- What a script leaves of the pen as it was: flow depth, key mark, whether columns are kept, the room; the bounds on its counts; and that it
--- does not look at flow depth and key mark at all.
-use mathlib.Core.Path.{_≡_, refl, sym, ap, subst, _∙_}
-use Prim.Native.Nat.{ℕ, _+_, _-_, _≤_, min}
-use native.Mathlib.Omega.{arith}
+-- What a script leaves of the pen as it was: flow depth, key mark, whether columns are kept, the room; and that it does not look at flow
+-- depth and key mark at all.
+use mathlib.Core.Path.{_≡_, refl, sym, ap, _∙_}
+use Prim.Native.Nat.{ℕ, _+_, _-_}
 use mathlib.Core.Bool.{Bool, true, false}
 use mathlib.Core.List.{[], _∷_}
 use mathlib.Core.Option.{Option, none, some}
@@ -15,8 +14,7 @@ use Rattle.definition.specs.Tree.{Inline}
 use Rattle.definition.specs.Pen.{Script, put, endLine, comment, replay, leaf, comma, _>>_, inlineText, endsClosed}
 use Rattle.definition.specs.declared.Settings.{Settings}
 use Rattle.laws.specs.Leaf.{scalarBytes}
-use Rattle.pen.specs.Pen.{Fields, Pen, page, columnAfter, put1, puts, lineEnded, withInline, withRaw, noted, noteOf, rawed, unput, ended, withFlow, withKey, ink}
-use Rattle.pen.specs.Shown.{begun}
+use Rattle.pen.specs.Pen.{Pen, page, columnAfter, put1, puts, lineEnded, withInline, withRaw, noted, noteOf, rawed, unput, ended, withFlow, withKey, ink}
 
 -- ---- what every step leaves true, every script does
 
@@ -119,44 +117,6 @@ ink-tracks s a p = ink-steady _ tracks-steady s a p
 pub ink-length : (s : Settings) (a : Script) (p : Pen) → length (ink s a p .out) ≡ length (p .out)
 ink-length s a p = ink-steady _ length-steady s a p
 
--- ---- the bounds on the counts
-
--- Nothing is counted further than two past the room.
-pub record Fit (p : Pen) : Type 0 where
-  pub len : p .w .len ≤ length (p .out) + 2
-  pub column : p .w .column ≤ length (p .out) + 2
-
-column-fit : (w : Fields) (most b : ℕ) → w .column ≤ most → columnAfter w most b ≤ most
-unfolding columnAfter
-column-fit w most b h = go (eqb (w .tracks) 0) (eqb b LF)
-  where
-    go : (c d : Bool) → (if c then w .column else if d then 0 else min (w .column + 1) most) ≤ most
-    go true d = h
-    go false true = omega arith
-    go false false = omega arith
-
-fit-stable : Stable Fit
-unfolding put1 noting rawing withInline withRaw
-fit-stable = record {
-  one = λ p b h. record {
-    len = rw length-set (omega arith);
-    column = rw length-set (column-fit (p .w) (length (p .out) + 2) b (h .column));
-  };
-  note = λ p m h. record { len = h .len; column = h .column };
-  raw = λ p h. record { len = h .len; column = h .column };
-}
-
-pub puts-fit : (t : Bytes) (p : Pen) → Fit p → Fit (puts t p)
-puts-fit t p h = puts-stable Fit fit-stable t p h
-
-pub ink-fit : (s : Settings) (a : Script) (p : Pen) → Fit p → Fit (ink s a p)
-ink-fit s a p h = ink-stable Fit fit-stable s a p h
-
--- a writer that has written nothing
-pub begun-fit : (s : Settings) (orig : Bytes) → Fit (page (begun s) orig)
-unfolding begun
-begun-fit s orig = record { len = omega arith; column = omega arith }
-
 -- ---- flow depth and key mark, which no step looks at
 
 -- a change of the pen that no step sees
@@ -252,14 +212,6 @@ pub with-flow-key : (m n : ℕ) (p : Pen) → withFlow m (withKey n p) ≡ withK
 unfolding withFlow withKey
 with-flow-key m n p = refl
 
-pub with-flow-fit : (n : ℕ) (p : Pen) → Fit p → Fit (withFlow n p)
-unfolding withFlow
-with-flow-fit n p h = record { len = h .len; column = h .column }
-
-pub with-key-fit : (n : ℕ) (p : Pen) → Fit p → Fit (withKey n p)
-unfolding withKey
-with-key-fit n p h = record { len = h .len; column = h .column }
-
 -- a script between setting a mark and setting it back
 pub ink-in-flow : (s : Settings) (a : Script) (n : ℕ) (p : Pen) → withFlow (p .w .flow) (ink s a (withFlow n p)) ≡ ink s a p
 ink-in-flow s a n p =
@@ -284,9 +236,6 @@ tracks-of s a p q e = ap (λ (r : Pen). r .w .tracks) e ∙ ink-tracks s a p
 
 pub length-of : (s : Settings) (a : Script) (p q : Pen) → q ≡ ink s a p → length (q .out) ≡ length (p .out)
 length-of s a p q e = ap (λ (r : Pen). length (r .out)) e ∙ ink-length s a p
-
-pub fit-of : (s : Settings) (a : Script) (p q : Pen) → q ≡ ink s a p → Fit p → Fit q
-fit-of s a p q e h = subst Fit (sym e) (ink-fit s a p h)
 
 -- ---- the end of a file
 

@@ -75,11 +75,11 @@ module _ (s : Settings) (deck pool orig : Bytes) where
 -- ---- the end of a run
 
 pub tells-over :
-    (q : Pen) (r : Answer) (out : Bytes) → length (q .out) < q .w .len → r ≡ refusal 10 0 → out ≡ replicate (length (q .out)) 0 → Tells q r out
+    (q : Pen) (r : Answer) (out : Bytes) (n : ℕ) → n ≡ q .w .len → length (q .out) < n → r ≡ refusal 10 0 → out ≡ replicate (length (q .out)) 0 → Tells q r out
 unfolding outcomeOf refusal noRoom
-tells-over q r out h a z = record { tells = λ deck pool orig e. sym (told-over q (lent deck pool orig) (let f : length (q .out) ≡ length orig = e in omega (arith, f, h)) ∙ rw (a, z, e)) }
+tells-over q r out n l h a z = record { tells = λ deck pool orig e. sym (told-over q (lent deck pool orig) (let f : length (q .out) ≡ length orig = e in omega (arith, f, l, h)) ∙ rw (a, z, e)) }
 
 pub tells-fits :
-    (q : Pen) (r : Answer) → q .w .len ≤ length (q .out) → r ≡ record { number = 0; place = 0; length = q .w .len; count = 0; modified = false } → Tells q r (q .out)
+    (q : Pen) (r : Answer) (n : ℕ) → n ≡ q .w .len → n ≤ length (q .out) → r ≡ record { number = 0; place = 0; length = n; count = 0; modified = false } → Tells q r (q .out)
 unfolding outcomeOf
-tells-fits q r h a = record { tells = λ deck pool orig e. sym (told-fits q (lent deck pool orig) (let f : length (q .out) ≡ length orig = e in omega (arith, f, h)) ∙ rw a) }
+tells-fits q r n l h a = record { tells = λ deck pool orig e. sym (told-fits q (lent deck pool orig) (let f : length (q .out) ≡ length orig = e in omega (arith, f, l, h)) ∙ rw (a, l)) }

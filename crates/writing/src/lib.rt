@@ -23,7 +23,7 @@ ghost use Rattle.writing.specs.Written.{written, Tells};
 fn settle(w: Writer, out: &mut [u8]) -> Answer
     ensures { λ r. ⌜ Tells (pen w (now (out .entry))) r (now (out .exit)) ⌝ }
 {
-    let length = w.len;
+    let length = w.len();
     if out.len() < length {
         clear(out);
         return refuse(10, 0);

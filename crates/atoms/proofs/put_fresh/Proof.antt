@@ -30,7 +30,7 @@ unfolding on
 returns c = with-comment _ _ _ _ _ _ _ _ _ _ (rw (c .before .before .before .before .before .before .before .before .before .flow .ensures) at (c .before .before .before .before .before .before .is-on-header .ensures)) (c .before .before .before .before .before .if1 .taken) (c .before .before .before .before .before .before .before .words-of .ensures) (c .before .before .before .marker-of .ensures) (c .before .before .put-commented .ensures)
 
 put-scalar-requires : tie.Need-put-scalar-requires
-put-scalar-requires c κs = (words-short _ _ (c .before .before .before .words-of .ensures) (c .before .before .before .before .before .before .before .before .before .pre .1), c .before .before .before .before .before .before .before .before .before .pre .3, c .before .before .before .before .before .before .before .before .before .pre .0)
+put-scalar-requires c κs = (words-short _ _ (c .before .before .before .words-of .ensures) (c .before .before .before .before .before .before .before .before .before .pre .1), c .before .before .before .before .before .before .before .before .before .pre .0)
 
 same-length-2 : tie.Need-same-length-2
 same-length-2 c = search needs

@@ -29,15 +29,15 @@ use Rattle.block.proofs.+put_dash+put_dashed+put_key+put_members+put_qu
 use Rattle.block.proofs.+put_dash+put_dashed+put_key+put_members+put_question+put_row+put_rows+put_under+put_value.{statement}
 use Rattle.block.proofs.+put_dash+put_dashed+put_key+put_members+put_question+put_row+put_rows+put_under+put_value.Tie.{close}
 use Rattle.block.proofs.+put_dash+put_dashed+put_key+put_members+put_question+put_row+put_rows+put_under+put_value.Proof.Base.{μ-put-dash, μ-put-dashed, μ-put-key, μ-put-members, μ-put-question, μ-put-row, μ-put-rows, μ-put-under, μ-put-value, put-dash-at, put-dashed-at, put-key-at, put-members-at, put-question-at, put-row-at, put-rows-at, put-under-at, put-value-at, put-dash-claims, put-dashed-claims, put-key-claims, put-members-claims, put-question-claims, put-row-claims, put-rows-claims, put-under-claims, put-value-claims}
-use Rattle.block.proofs.+put_dash+put_dashed+put_key+put_members+put_question+put_row+put_rows+put_under+put_value.Proof.PutDash.{put-dash-byte-requires, put-dash-is-included-requires, put-dash-put-include-requires, put-dash-same-length, put-dash-returns, put-dash-is-block-requires, put-dash-put-dashed-requires, put-dash-same-length-2, put-dash-returns-2, put-dash-add-j, put-dash-bare-requires, put-dash-put-bare-requires, put-dash-same-length-3, put-dash-returns-3, put-dash-is-marked-requires, put-dash-anew-requires, put-dash-put-below-requires, put-dash-same-length-4, put-dash-returns-4, put-dash-put-pad-requires, put-dash-line-requires, put-dash-same-length-5, put-dash-returns-5}
+use Rattle.block.proofs.+put_dash+put_dashed+put_key+put_members+put_question+put_row+put_rows+put_under+put_value.Proof.PutDash.{put-dash-byte-requires, put-dash-is-included-requires, put-dash-put-include-requires, put-dash-same-length, put-dash-returns, put-dash-is-block-requires, put-dash-put-dashed-requires, put-dash-same-length-2, put-dash-returns-2, put-dash-add-j, put-dash-bare-requires, put-dash-put-bare-requires, put-dash-same-length-3, put-dash-returns-3, put-dash-is-marked-requires, put-dash-put-below-requires, put-dash-same-length-4, put-dash-returns-4, put-dash-put-pad-requires, put-dash-line-requires, put-dash-same-length-5, put-dash-returns-5}
 use Rattle.block.proofs.+put_dash+put_dashed+put_key+put_members+put_question+put_row+put_rows+put_under+put_value.Proof.PutDashed.{put-dashed-on-dash-line-requires, put-dashed-byte-requires, put-dashed-add-put-members, put-dashed-put-members-requires, put-dashed-add-with-foots, put-dashed-with-foots-requires, put-dashed-same-length, put-dashed-returns, put-dashed-item-column-requires, put-dashed-add-put-under, put-dashed-put-under-requires, put-dashed-same-length-2, put-dashed-returns-2}
 use Rattle.block.proofs.+put_dash+put_dashed+put_key+put_members+put_question+put_row+put_rows+put_under+put_value.Proof.PutKey.{put-key-is-explicit-requires, put-key-byte-requires, put-key-put-question-requires, put-key-with-colon-requires, put-key-same-length, put-key-returns, put-key-line-requires, put-key-same-length-2, put-key-returns-2}
 use Rattle.block.proofs.+put_dash+put_dashed+put_key+put_members+put_question+put_row+put_rows+put_under+put_value.Proof.PutMembers.{put-members-case-of-requires, put-members-count-of-requires, put-members-put-rows-requires, put-members-same-length, put-members-returns}
 use Rattle.block.proofs.+put_dash+put_dashed+put_key+put_members+put_question+put_row+put_rows+put_under+put_value.Proof.PutQuestion.{put-question-step-of-requires, put-question-add-j, put-question-is-block-requires, put-question-put-dressed-requires, put-question-put-members-requires, put-question-same-length, put-question-returns, put-question-put-key-line-requires, put-question-same-length-2, put-question-returns-2}
-use Rattle.block.proofs.+put_dash+put_dashed+put_key+put_members+put_question+put_row+put_rows+put_under+put_value.Proof.PutRow.{put-row-spot-at-requires, put-row-put-before-requires, put-row-put-key-requires, put-row-anew-requires, put-row-put-value-requires, put-row-same-length, put-row-returns, put-row-put-dash-requires, put-row-same-length-2, put-row-returns-2}
-use Rattle.block.proofs.+put_dash+put_dashed+put_key+put_members+put_question+put_row+put_rows+put_under+put_value.Proof.PutRows.{put-rows-Inv-loop, put-rows-μ-loop, put-rows-loop-holds, put-rows-put-row-requires, put-rows-anew-requires, put-rows-sub-left, put-rows-loop-less, put-rows-loop-again, put-rows-same-length, put-rows-returns}
+use Rattle.block.proofs.+put_dash+put_dashed+put_key+put_members+put_question+put_row+put_rows+put_under+put_value.Proof.PutRow.{put-row-spot-at-requires, put-row-put-before-requires, put-row-put-key-requires, put-row-put-value-requires, put-row-same-length, put-row-returns, put-row-put-dash-requires, put-row-same-length-2, put-row-returns-2}
+use Rattle.block.proofs.+put_dash+put_dashed+put_key+put_members+put_question+put_row+put_rows+put_under+put_value.Proof.PutRows.{put-rows-Inv-loop, put-rows-μ-loop, put-rows-loop-holds, put-rows-put-row-requires, put-rows-sub-left, put-rows-loop-less, put-rows-loop-again, put-rows-same-length, put-rows-returns}
 use Rattle.block.proofs.+put_dash+put_dashed+put_key+put_members+put_question+put_row+put_rows+put_under+put_value.Proof.PutUnder.{put-under-put-opening-requires, put-under-put-members-requires, put-under-with-foots-requires, put-under-same-length, put-under-returns}
-use Rattle.block.proofs.+put_dash+put_dashed+put_key+put_members+put_question+put_row+put_rows+put_under+put_value.Proof.PutValue.{put-value-spot-at-requires, put-value-is-included-requires, put-value-put-include-requires, put-value-same-length, put-value-returns, put-value-is-block-requires, put-value-value-column-requires, put-value-put-under-requires, put-value-same-length-2, put-value-returns-2, put-value-step-of-requires, put-value-add-j, put-value-bare-requires, put-value-put-bare-requires, put-value-same-length-3, put-value-returns-3, put-value-is-marked-requires, put-value-anew-requires, put-value-put-below-requires, put-value-same-length-4, put-value-returns-4, put-value-put-pad-requires, put-value-line-requires, put-value-same-length-5, put-value-returns-5}
+use Rattle.block.proofs.+put_dash+put_dashed+put_key+put_members+put_question+put_row+put_rows+put_under+put_value.Proof.PutValue.{put-value-spot-at-requires, put-value-is-included-requires, put-value-put-include-requires, put-value-same-length, put-value-returns, put-value-is-block-requires, put-value-value-column-requires, put-value-put-under-requires, put-value-same-length-2, put-value-returns-2, put-value-step-of-requires, put-value-add-j, put-value-bare-requires, put-value-put-bare-requires, put-value-same-length-3, put-value-returns-3, put-value-is-marked-requires, put-value-put-below-requires, put-value-same-length-4, put-value-returns-4, put-value-put-pad-requires, put-value-line-requires, put-value-same-length-5, put-value-returns-5}
 
 pub +put-dash+put-dashed+put-key+put-members+put-question+put-row+put-rows+put-under+put-value-spec :
     {M : Type 1} → statement M
@@ -70,7 +70,6 @@ pub +put-dash+put-dashed+put-key+put-members+put-question+put-row+put-rows+put-u
     (put-dash-same-length-3 t)
     (put-dash-returns-3 t)
     (put-dash-is-marked-requires t)
-    (put-dash-anew-requires t)
     (put-dash-put-below-requires t)
     (put-dash-same-length-4 t)
     (put-dash-returns-4 t)
@@ -133,7 +132,6 @@ pub +put-dash+put-dashed+put-key+put-members+put-question+put-row+put-rows+put-u
     (put-row-spot-at-requires t)
     (put-row-put-before-requires t)
     (put-row-put-key-requires t)
-    (put-row-anew-requires t)
     (put-row-put-value-requires t)
     (put-row-same-length t)
     (put-row-returns t)
@@ -148,7 +146,6 @@ pub +put-dash+put-dashed+put-key+put-members+put-question+put-row+put-rows+put-u
     put-rows-μ-loop
     (put-rows-loop-holds t)
     (put-rows-put-row-requires t)
-    (put-rows-anew-requires t)
     (put-rows-sub-left t)
     (put-rows-loop-less t)
     (put-rows-loop-again t)
@@ -182,7 +179,6 @@ pub +put-dash+put-dashed+put-key+put-members+put-question+put-row+put-rows+put-u
     (put-value-same-length-3 t)
     (put-value-returns-3 t)
     (put-value-is-marked-requires t)
-    (put-value-anew-requires t)
     (put-value-put-below-requires t)
     (put-value-same-length-4 t)
     (put-value-returns-4 t)

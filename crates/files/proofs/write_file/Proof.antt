@@ -2,7 +2,7 @@
 use mathlib.Core.Path.{_∙_}
 use native.Mathlib.Omega.{arith}
 use Rattle.definition.specs.Settings.{plainSettings, nullAs}
-use Rattle.files.proofs.Laws.{file-calm, file-len, file-done}
+use Rattle.files.proofs.Laws.{file-calm, file-done}
 use borrow.Author.Needs.{needs}
 use Rattle.files.proofs.write_file.Statement.{statement}
 use Rattle.files.proofs.write_file.Tie as tie
@@ -29,19 +29,17 @@ part-write-one-end c = search needs
 write-one-requires : tie.Need-write-one-requires
 write-one-requires c κs = file-calm (c .before .before .before .before .before .before .before .before .args .deck .now) (c .before .before .before .before .before .before .before .before .args .pool .now) (c .before .before .before .before .before .before .before .before .args .out .now) (c .before .before .before .before .before .before .before .before .args .start) (c .before .before .before .before .before .before .before .before .args .f .at) _ _ (c .before .before .before .terms-of .ensures ∙ c .before .before .before .before .plain .ensures) (c .before .before .fresh-writer .ensures) ((c .before .before .before .before .before .before .before .before .pre) .0) ((c .before .before .before .before .before .before .before .before .pre) .1) ((c .before .before .before .before .before .before .before .before .pre) .2) ((c .before .before .before .before .before .before .before .before .pre) .4)
 
+len-requires : tie.Need-len-requires
+len-requires c κs = search needs
+
 add-t16 : tie.Need-add-t16
-add-t16 c =
-    let b = file-calm (c .before .before .before .before .before .before .before .before .before .before .before .before .args .deck .now) (c .before .before .before .before .before .before .before .before .before .before .before .before .args .pool .now) (c .before .before .before .before .before .before .before .before .before .before .before .before .args .out .now) (c .before .before .before .before .before .before .before .before .before .before .before .before .args .start) (c .before .before .before .before .before .before .before .before .before .before .before .before .args .f .at) _ _ (c .before .before .before .before .before .before .before .terms-of .ensures ∙ c .before .before .before .before .before .before .before .before .plain .ensures) (c .before .before .before .before .before .before .fresh-writer .ensures) ((c .before .before .before .before .before .before .before .before .before .before .before .before .pre) .0) ((c .before .before .before .before .before .before .before .before .before .before .before .before .pre) .1) ((c .before .before .before .before .before .before .before .before .before .before .before .before .pre) .2) ((c .before .before .before .before .before .before .before .before .before .before .before .before .pre) .4) in
-    let n = file-len (c .before .before .before .before .before .before .fresh-writer .result) (c .before .before .before .before .before .before .before .before .before .before .before .before .args .out .now) (c .before .before .before .before .before .before .before .before .before .before .before .before .args .start) _ _ _ b (c .before .before .before .write-one .ensures) in
-    let o = (c .before .before .before .before .before .before .before .before .before .before .before .before .pre) .2 in
-    let r = (c .before .before .before .before .before .before .before .before .before .before .before .before .pre) .3 in
-    omega (arith, n, o, r)
+add-t16 c = search needs
 
 same-length : tie.Need-same-length
 same-length c = search needs
 
 returns : tie.Need-returns
-returns c = file-done (c .before .before .before .before .before .before .before .before .before .before .before .before .args .deck .now) (c .before .before .before .before .before .before .before .before .before .before .before .before .args .pool .now) (c .before .before .before .before .before .before .before .before .before .before .before .before .args .out .now) (c .before .before .before .before .before .before .before .before .before .before .before .before .args .start) (c .before .before .before .before .before .before .before .before .before .before .before .before .args .f) _ _ _ _ (c .before .before .before .before .before .before .before .terms-of .ensures ∙ c .before .before .before .before .before .before .before .before .plain .ensures) (c .before .before .before .before .before .before .fresh-writer .ensures) (c .before .before .before .write-one .ensures)
+returns c = file-done (c .before .before .before .before .before .before .before .before .before .before .before .before .before .args .deck .now) (c .before .before .before .before .before .before .before .before .before .before .before .before .before .args .pool .now) (c .before .before .before .before .before .before .before .before .before .before .before .before .before .args .out .now) (c .before .before .before .before .before .before .before .before .before .before .before .before .before .args .start) (c .before .before .before .before .before .before .before .before .before .before .before .before .before .args .f) _ _ _ _ _ (c .before .len .ensures .0) (c .before .before .before .before .before .before .before .before .terms-of .ensures ∙ c .before .before .before .before .before .before .before .before .before .plain .ensures) (c .before .before .before .before .before .before .before .fresh-writer .ensures) (c .before .before .before .before .write-one .ensures)
 
 pub write-file-spec : {M : Type 1} → statement M
 write-file-spec =
@@ -54,6 +52,7 @@ write-file-spec =
     part-write-one-start
     part-write-one-end
     write-one-requires
+    len-requires
     add-t16
     same-length
     returns)

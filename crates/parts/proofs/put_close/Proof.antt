@@ -16,9 +16,6 @@ returns : tie.Need-returns
 unfolding closes
 returns c = both _ _ (no-remark _ _ _ _ _ (c .before .before .before .before .if1 .taken)) (of-end (c .before .before .end-line .ensures))
 
-anew-requires : tie.Need-anew-requires
-anew-requires c κs = search needs
-
 put-remark-requires : tie.Need-put-remark-requires
 put-remark-requires c κs = search needs
 
@@ -30,8 +27,8 @@ same-length-2 c = search needs
 
 returns-2 : tie.Need-returns-2
 unfolding closes
-returns-2 c = both _ _ (rw (c .before .before .before .before .before .before .before .before .anew .ensures) at (c .before .before .before .before .before .before .put-remark .ensures)) (of-end (c .before .before .end-line2 .ensures))
+returns-2 c = both _ _ (c .before .before .before .before .before .before .put-remark .ensures) (of-end (c .before .before .end-line2 .ensures))
 
 pub put-close-spec : {M : Type 1} → statement M
 put-close-spec =
-    tie.close (tie.spec end-line-requires same-length returns anew-requires put-remark-requires end-line-requires-2 same-length-2 returns-2)
+    tie.close (tie.spec end-line-requires same-length returns put-remark-requires end-line-requires-2 same-length-2 returns-2)

@@ -12,15 +12,12 @@ is-either-requires c κs = search needs
 put-both-requires : tie.Need-put-both-requires
 put-both-requires c κs = search needs
 
-anew-requires : tie.Need-anew-requires
-anew-requires c κs = search needs
-
 same-length : tie.Need-same-length
 same-length c = search needs
 
 returns : tie.Need-returns
 unfolding propsBy
-returns c = rw (c .anew .ensures) (c .before .before .before .put-both .ensures)
+returns c = c .before .before .put-both .ensures
 
 returns-2 : tie.Need-returns-2
 unfolding propsBy
@@ -32,7 +29,6 @@ put-props-spec =
     (tie.spec
     is-either-requires
     put-both-requires
-    anew-requires
     same-length
     returns
     returns-2)

@@ -1,21 +1,18 @@
--- `pen::column_again` meets its contract.
 use borrow.Author.Needs.{needs}
 use mathlib.Core.Path.{_≡_}
+use Prim.Native.Nat.{_<_, _^_}
 use native.Mathlib.Omega.{arith}
 use lib.ListN.{replicate}
 use Rattle.pen.specs.Pen.{columnOver}
-use Rattle.pen.proofs.Texts.{no-column, column-again}
+use Rattle.pen.proofs.Texts.{column-again}
 use Rattle.pen.proofs.column_again.Statement.{statement}
 use Rattle.pen.proofs.column_again.Tie as tie
 
 abbrev Inv-loop : tie.InvT-loop
-Inv-loop tracks column most b n c₀ left₀ c left = columnOver tracks most c (replicate left b) ≡ columnOver tracks most column (replicate n b)
+Inv-loop column most b n c₀ left₀ c left = (columnOver most c (replicate left b) ≡ columnOver most column (replicate n b)) × (c < 2 ^ 28)
 
 abbrev μ-loop : tie.MeasureT-loop
-μ-loop tracks column most b n c₀ left₀ c left = left
-
-returns : tie.Need-returns Inv-loop μ-loop
-returns c = no-column _ _ _ _ (c .if1 .taken)
+μ-loop column most b n c₀ left₀ c left = left
 
 loop-holds : tie.Need-loop-holds Inv-loop μ-loop
 loop-holds c = search needs
@@ -30,11 +27,11 @@ loop-less : tie.Need-loop-less Inv-loop μ-loop
 loop-less c = search needs
 
 loop-again : tie.Need-loop-again Inv-loop μ-loop
-loop-again c = column-again _ _ _ _ _ _ _ (c .before .before .before .if1 .left) (c .before .loop-test .taken) (c .next-column .ensures) (c .before .before .loop .inv)
+loop-again c = (column-again _ _ _ _ _ _ (c .before .loop-test .taken) (c .next-column .ensures .0) (c .before .before .loop .inv .0), c .next-column .ensures .1)
 
-returns-2 : tie.Need-returns-2 Inv-loop μ-loop
+returns : tie.Need-returns Inv-loop μ-loop
 unfolding columnOver
-returns-2 c = let e : c .before .loop .left ≡ 0 = omega (arith, c .loop-test .left) in rw e at (c .before .loop .inv)
+returns c = let e : c .before .loop .left ≡ 0 = omega (arith, c .loop-test .left) in (rw e at (c .before .loop .inv .0), c .before .loop .inv .1)
 
 pub column-again-spec : {M : Type 1} → statement M
 column-again-spec =
@@ -42,10 +39,9 @@ column-again-spec =
     (tie.spec
     Inv-loop
     μ-loop
-    returns
     loop-holds
     next-column-requires
     sub-left
     loop-less
     loop-again
-    returns-2)
+    returns)

@@ -1,21 +1,17 @@
--- `pen::column_over` meets its contract.
 use borrow.Author.Needs.{needs}
 use mathlib.Core.Path.{_≡_}
-use Prim.Native.Nat.{_-_, _≤_}
+use Prim.Native.Nat.{_-_, _<_, _≤_, _^_}
 use lib.ListN.{length, drop, drop-of-length-le}
 use Rattle.pen.specs.Pen.{columnOver}
-use Rattle.pen.proofs.Texts.{no-column, column-on}
+use Rattle.pen.proofs.Texts.{column-on}
 use Rattle.pen.proofs.column_over.Statement.{statement}
 use Rattle.pen.proofs.column_over.Tie as tie
 
 abbrev Inv-loop : tie.InvT-loop
-Inv-loop tracks column most t c₀ i₀ c i = (columnOver tracks most c (drop i t) ≡ columnOver tracks most column t) × (i ≤ length t)
+Inv-loop column most t c₀ i₀ c i = (columnOver most c (drop i t) ≡ columnOver most column t) × (i ≤ length t) × (c < 2 ^ 28)
 
 abbrev μ-loop : tie.MeasureT-loop
-μ-loop tracks column most t c₀ i₀ c i = length t - i
-
-returns : tie.Need-returns Inv-loop μ-loop
-returns c = no-column _ _ _ _ (c .if1 .taken)
+μ-loop column most t c₀ i₀ c i = length t - i
 
 loop-holds : tie.Need-loop-holds Inv-loop μ-loop
 loop-holds c = search needs
@@ -33,11 +29,11 @@ loop-less : tie.Need-loop-less Inv-loop μ-loop
 loop-less c = search needs
 
 loop-again : tie.Need-loop-again Inv-loop μ-loop
-loop-again c = (column-on _ _ _ _ _ _ _ (c .before .before .before .before .if1 .left) (c .before .before .loop-test .taken) (c .next-column .ensures) (c .before .before .before .loop .inv .0), search needs)
+loop-again c = (column-on _ _ _ _ _ _ (c .before .before .loop-test .taken) (c .next-column .ensures .0) (c .before .before .before .loop .inv .0), search needs, c .next-column .ensures .1)
 
-returns-2 : tie.Need-returns-2 Inv-loop μ-loop
+returns : tie.Need-returns Inv-loop μ-loop
 unfolding columnOver
-returns-2 c = rw (drop-of-length-le _ (c .loop-test .left)) at (c .before .loop .inv .0)
+returns c = (rw (drop-of-length-le _ (c .loop-test .left)) at (c .before .loop .inv .0), c .before .loop .inv .2)
 
 pub column-over-spec : {M : Type 1} → statement M
 column-over-spec =
@@ -45,11 +41,10 @@ column-over-spec =
     (tie.spec
     Inv-loop
     μ-loop
-    returns
     loop-holds
     shared-slice-read-next-column
     next-column-requires
     add-i
     loop-less
     loop-again
-    returns-2)
+    returns)

@@ -6,6 +6,9 @@ use borrow.Author.Needs.{needs}
 use Rattle.quoted.proofs.put_quoted_folded.Statement.{statement}
 use Rattle.quoted.proofs.put_quoted_folded.Tie as tie
 
+column-requires : tie.Need-column-requires
+column-requires c κs = search needs
+
 at-least-one-requires : tie.Need-at-least-one-requires
 at-least-one-requires c κs = tt
 
@@ -32,12 +35,13 @@ same-length c = search needs
 
 returns : tie.Need-returns
 unfolding foldedAt weightOf
-returns c = rw (← c .before .before .before .before .before .before .before .before .before .before .before .before .before .width .ensures, ← (c .before .before .before .before .before .before .before .before .before .before .before .before .quote-of .ensures), ← c .before .before .before .before .before .before .before .before .before .before .before .before .before .before .at-least-one .ensures) (around _ _ _ _ _ _ (c .before .before .before .before .before .before .before .before .before .before .byte .ensures) (c .before .before .before .before .before .before .put-folded .ensures) (c .before .before .byte2 .ensures))
+returns c = rw (← (c .before .before .before .before .before .before .before .before .before .before .before .before .before .width .ensures), ← (c .before .before .before .before .before .before .before .before .before .before .before .before .quote-of .ensures), ← (rw (c .before .before .before .before .before .before .before .before .before .before .before .before .before .before .before .column .ensures .0) at (c .before .before .before .before .before .before .before .before .before .before .before .before .before .before .at-least-one .ensures))) (around _ _ _ _ _ _ (c .before .before .before .before .before .before .before .before .before .before .byte .ensures) (rw (c .before .before .before .before .before .before .before .before .before .before .before .before .before .before .before .column .ensures .0) at (c .before .before .before .before .before .before .put-folded .ensures)) (c .before .before .byte2 .ensures))
 
 pub put-quoted-folded-spec : {M : Type 1} → statement M
 put-quoted-folded-spec =
     tie.close
     (tie.spec
+    column-requires
     at-least-one-requires
     width-requires
     quote-of-requires

@@ -51,7 +51,6 @@ use Rattle.layout.proofs.put_dressed.Reads as put-dressed-reads
 use Rattle.layout.proofs.put_include.Reads as put-include-reads
 use Rattle.layout.proofs.put_key_line.Reads as put-key-line-reads
 use Rattle.layout.proofs.put_pad.Reads as put-pad-reads
-use Rattle.pen.proofs.Writer.anew.Reads as anew-reads
 use Rattle.pen.proofs.Writer.byte.Reads as byte-reads
 use Rattle.spot.proofs.case_of.Reads as case-of-reads
 use Rattle.spot.proofs.spot_at.Reads as spot-at-reads
@@ -169,8 +168,6 @@ put-dash-claims t = (
   put-bare-reads.Learnt,
   is-marked-reads.Asked,
   is-marked-reads.Learnt,
-  anew-reads.Asked,
-  anew-reads.Learnt,
   put-below-reads.Asked,
   put-below-reads.Learnt,
   put-pad-reads.Asked,
@@ -241,8 +238,6 @@ put-row-claims t = (
   put-before-reads.Learnt,
   put-key-below t,
   put-key.Post,
-  anew-reads.Asked,
-  anew-reads.Learnt,
   put-value-below t,
   put-value.Post,
   put-dash-below t,
@@ -253,8 +248,6 @@ abbrev pub put-rows-claims : ℕ → put-rows-lts.Claims
 put-rows-claims t = (
   put-row-below t,
   put-row.Post,
-  anew-reads.Asked,
-  anew-reads.Learnt,
 )
 
 abbrev pub put-under-claims : ℕ → put-under-lts.Claims
@@ -289,8 +282,6 @@ put-value-claims t = (
   put-bare-reads.Learnt,
   is-marked-reads.Asked,
   is-marked-reads.Learnt,
-  anew-reads.Asked,
-  anew-reads.Learnt,
   put-below-reads.Asked,
   put-below-reads.Learnt,
   put-pad-reads.Asked,

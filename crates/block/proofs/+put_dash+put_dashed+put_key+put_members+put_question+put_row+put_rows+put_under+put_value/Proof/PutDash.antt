@@ -59,17 +59,14 @@ put-dash-returns-3 t c = let p = calm-drawn ((c .before .before .before .before 
 pub put-dash-is-marked-requires : (t : ℕ) → put-dash-lts.Need-is-marked-requires (put-dash-claims t) (put-dash-at t) put-dash.Post
 put-dash-is-marked-requires t c κs = search needs
 
-pub put-dash-anew-requires : (t : ℕ) → put-dash-lts.Need-anew-requires (put-dash-claims t) (put-dash-at t) put-dash.Post
-put-dash-anew-requires t c κs = search needs
-
 pub put-dash-put-below-requires : (t : ℕ) → put-dash-lts.Need-put-below-requires (put-dash-claims t) (put-dash-at t) put-dash.Post
-put-dash-put-below-requires t c κs = let p = calm-drawn ((c .before .before .before .before .before .before .before .before .before .before .before .before .before .before .before .before .before .pre) .1 .0) (of-byte mark _ (c .before .before .before .before .before .before .before .before .before .before .before .before .byte .ensures)) in let r = p .ready in let g = spot-good _ _ _ (r .here) (r .deck-small) ((c .before .before .before .before .before .before .before .before .before .before .before .before .before .before .before .before .before .pre) .1 .1) in rw (c .before .anew .ensures) (in-line p _ _ (g .1) (g .2) (omega arith), g .0, few-spot _ (λ k. omega (arith, c .before .before .before .before .before .before .before .before .before .before .before .before .before .before .before .before .shared-slice-known .given k)) _ _ (r .here) ((c .before .before .before .before .before .before .before .before .before .before .before .before .before .before .before .before .before .pre) .1 .1), p .flow, p .key)
+put-dash-put-below-requires t c κs = let p = calm-drawn ((c .before .before .before .before .before .before .before .before .before .before .before .before .before .before .before .before .pre) .1 .0) (of-byte mark _ (c .before .before .before .before .before .before .before .before .before .before .before .byte .ensures)) in let r = p .ready in let g = spot-good _ _ _ (r .here) (r .deck-small) ((c .before .before .before .before .before .before .before .before .before .before .before .before .before .before .before .before .pre) .1 .1) in (in-line p _ _ (g .1) (g .2) (omega arith), g .0, few-spot _ (λ k. omega (arith, c .before .before .before .before .before .before .before .before .before .before .before .before .before .before .before .shared-slice-known .given k)) _ _ (r .here) ((c .before .before .before .before .before .before .before .before .before .before .before .before .before .before .before .before .pre) .1 .1), p .flow, p .key)
 
 pub put-dash-same-length-4 : (t : ℕ) → put-dash-lts.Need-same-length-4 (put-dash-claims t) (put-dash-at t) put-dash.Post
 put-dash-same-length-4 t c = search needs
 
 pub put-dash-returns-4 : (t : ℕ) → put-dash-lts.Need-returns-4 (put-dash-claims t) (put-dash-at t) put-dash.Post
-put-dash-returns-4 t c = let p = calm-drawn ((c .before .before .before .before .before .before .before .before .before .before .before .before .before .before .before .before .before .before .before .before .pre) .1 .0) (of-byte mark _ (c .before .before .before .before .before .before .before .before .before .before .before .before .before .before .before .byte .ensures)) in let r = p .ready in dash-plain _ _ _ _ _ _ _ _ _ (r .here) (r .deck-small) ((c .before .before .before .before .before .before .before .before .before .before .before .before .before .before .before .before .before .before .before .before .pre) .1 .1) (c .before .before .before .before .before .before .before .before .before .before .before .before .before .before .before .byte .ensures) (c .before .before .before .before .before .before .before .before .before .before .before .before .is-included .ensures) (c .before .before .before .before .before .before .before .before .before .before .before .if1 .left) (c .before .before .before .before .before .before .before .before .before .before .is-block .ensures) (c .before .before .before .before .before .before .before .before .before .if2 .left) (value-below _ _ _ _ _ _ (c .before .before .before .before .before .before .before .before .bare .ensures) (c .before .before .before .before .before .before .before .if3 .left) _ (c .before .before .before .before .before .before .is-marked .ensures) _ (c .before .before .before .before .before .if4 .taken) (rw (c .before .before .before .before .anew .ensures) at (c .before .before .put-below .ensures)))
+put-dash-returns-4 t c = let p = calm-drawn ((c .before .before .before .before .before .before .before .before .before .before .before .before .before .before .before .before .before .before .before .pre) .1 .0) (of-byte mark _ (c .before .before .before .before .before .before .before .before .before .before .before .before .before .before .byte .ensures)) in let r = p .ready in dash-plain _ _ _ _ _ _ _ _ _ (r .here) (r .deck-small) ((c .before .before .before .before .before .before .before .before .before .before .before .before .before .before .before .before .before .before .before .pre) .1 .1) (c .before .before .before .before .before .before .before .before .before .before .before .before .before .before .byte .ensures) (c .before .before .before .before .before .before .before .before .before .before .before .is-included .ensures) (c .before .before .before .before .before .before .before .before .before .before .if1 .left) (c .before .before .before .before .before .before .before .before .before .is-block .ensures) (c .before .before .before .before .before .before .before .before .if2 .left) (value-below _ _ _ _ _ _ (c .before .before .before .before .before .before .before .bare .ensures) (c .before .before .before .before .before .before .if3 .left) _ (c .before .before .before .before .before .is-marked .ensures) _ (c .before .before .before .before .if4 .taken) ((c .before .before .put-below .ensures)))
 
 pub put-dash-put-pad-requires : (t : ℕ) → put-dash-lts.Need-put-pad-requires (put-dash-claims t) (put-dash-at t) put-dash.Post
 put-dash-put-pad-requires t c κs = let p = calm-drawn ((c .before .before .before .before .before .before .before .before .before .before .before .before .before .before .before .before .pre) .1 .0) (of-byte mark _ (c .before .before .before .before .before .before .before .before .before .before .before .byte .ensures)) in let r = p .ready in omega (arith, r .out-small)

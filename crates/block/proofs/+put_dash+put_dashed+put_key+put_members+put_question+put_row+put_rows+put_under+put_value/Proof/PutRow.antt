@@ -19,17 +19,14 @@ put-row-put-before-requires t c κs = let p = (c .before .before .before .before
 pub put-row-put-key-requires : (t : ℕ) → put-row-lts.Need-put-key-requires (put-row-claims t) (put-row-at t) put-row.Post
 put-row-put-key-requires t c κs = let q = (c .before .before .before .before .before .before .before .before .before .before .pre) .0 in let p = (c .before .before .before .before .before .before .before .before .before .before .pre) .1 in let r = p .ready in let g = spot-good _ _ _ (r .here) (r .deck-small) (c .before .before .before .before .before .before .spot-at .ensures) in (omega (arith, q, g .1, g .2), (calm-further (calm-drawn p (c .before .before .before .before .put-before .ensures)) _ (g .1) (g .2), g .0, few-spot _ (λ k. omega (arith, c .before .before .before .before .before .before .before .before .before .shared-slice-known .given k)) _ _ (r .here) (c .before .before .before .before .before .before .spot-at .ensures)))
 
-pub put-row-anew-requires : (t : ℕ) → put-row-lts.Need-anew-requires (put-row-claims t) (put-row-at t) put-row.Post
-put-row-anew-requires t c κs = search needs
-
 pub put-row-put-value-requires : (t : ℕ) → put-row-lts.Need-put-value-requires (put-row-claims t) (put-row-at t) put-row.Post
-put-row-put-value-requires t c κs = let q = (c .before .before .before .before .before .before .before .before .before .before .before .before .before .before .before .before .pre) .0 in let p = (c .before .before .before .before .before .before .before .before .before .before .before .before .before .before .before .before .pre) .1 in let r = p .ready in let k = at-cursor _ _ _ _ _ _ (keyPart _ _ _) (r .here) (r .deck-small) (c .before .before .before .before .before .before .before .before .before .before .before .before .spot-at .ensures) (c .before .before .before .before .before .put-key .ensures) in (omega (arith, q, k .onward, k .within), rw (c .before .anew .ensures) (calm-further (calm-after (calm-drawn p (c .before .before .before .before .before .before .before .before .before .before .put-before .ensures)) _ _ _ (k .drawn)) _ (k .onward) (k .within)))
+put-row-put-value-requires t c κs = let q = (c .before .before .before .before .before .before .before .before .before .before .before .before .before .before .before .pre) .0 in let p = (c .before .before .before .before .before .before .before .before .before .before .before .before .before .before .before .pre) .1 in let r = p .ready in let k = at-cursor _ _ _ _ _ _ (keyPart _ _ _) (r .here) (r .deck-small) (c .before .before .before .before .before .before .before .before .before .before .before .spot-at .ensures) (c .before .before .before .before .put-key .ensures) in (omega (arith, q, k .onward, k .within), (calm-further (calm-after (calm-drawn p (c .before .before .before .before .before .before .before .before .before .put-before .ensures)) _ _ _ (k .drawn)) _ (k .onward) (k .within)))
 
 pub put-row-same-length : (t : ℕ) → put-row-lts.Need-same-length (put-row-claims t) (put-row-at t) put-row.Post
 put-row-same-length t c = search needs
 
 pub put-row-returns : (t : ℕ) → put-row-lts.Need-returns (put-row-claims t) (put-row-at t) put-row.Post
-put-row-returns t c = let r = (c .before .before .before .before .before .before .before .before .before .before .before .before .before .before .before .before .before .before .before .pre) .1 .ready in pair-row _ _ _ _ _ _ _ _ _ _ _ (r .here) (r .deck-small) (c .before .before .before .before .before .before .before .before .before .before .before .before .before .before .before .spot-at .ensures) (c .before .before .before .before .before .before .before .before .before .before .if1 .taken) (c .before .before .before .before .before .before .before .before .before .before .before .before .before .put-before .ensures) (c .before .before .before .before .before .before .before .before .put-key .ensures) (rw (c .before .before .before .before .anew .ensures) at (c .before .before .put-value .ensures))
+put-row-returns t c = let r = (c .before .before .before .before .before .before .before .before .before .before .before .before .before .before .before .before .before .before .pre) .1 .ready in pair-row _ _ _ _ _ _ _ _ _ _ _ (r .here) (r .deck-small) (c .before .before .before .before .before .before .before .before .before .before .before .before .before .before .spot-at .ensures) (c .before .before .before .before .before .before .before .before .before .if1 .taken) (c .before .before .before .before .before .before .before .before .before .before .before .before .put-before .ensures) (c .before .before .before .before .before .before .before .put-key .ensures) ((c .before .before .put-value .ensures))
 
 pub put-row-put-dash-requires : (t : ℕ) → put-row-lts.Need-put-dash-requires (put-row-claims t) (put-row-at t) put-row.Post
 put-row-put-dash-requires t c κs = let q = (c .before .before .before .before .before .before .before .before .before .before .pre) .0 in (omega (arith, q), (calm-drawn ((c .before .before .before .before .before .before .before .before .before .before .pre) .1) (c .before .before .before .before .put-before .ensures), c .before .before .before .before .before .before .spot-at .ensures))

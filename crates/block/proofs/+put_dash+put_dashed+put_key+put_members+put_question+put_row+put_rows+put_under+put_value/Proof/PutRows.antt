@@ -20,9 +20,6 @@ put-rows-loop-holds t c = start _ _ _ _ _ _ _ _ _ _ ((c .before .before .before 
 pub put-rows-put-row-requires : (t : ℕ) → put-rows-lts.Need-put-row-requires (put-rows-claims t) (put-rows-at t) put-rows.Post put-rows-Inv-loop put-rows-μ-loop
 put-rows-put-row-requires t c κs = let g = c .before .before .loop .inv in let q = (c .before .before .before .before .before .before .pre) .0 in (omega (arith, q, g .onward, g .calm .ready .here), g .calm)
 
-pub put-rows-anew-requires : (t : ℕ) → put-rows-lts.Need-anew-requires (put-rows-claims t) (put-rows-at t) put-rows.Post put-rows-Inv-loop put-rows-μ-loop
-put-rows-anew-requires t c κs = search needs
-
 pub put-rows-sub-left : (t : ℕ) → put-rows-lts.Need-sub-left (put-rows-claims t) (put-rows-at t) put-rows.Post put-rows-Inv-loop put-rows-μ-loop
 put-rows-sub-left t c = search needs
 
@@ -30,7 +27,7 @@ pub put-rows-loop-less : (t : ℕ) → put-rows-lts.Need-loop-less (put-rows-cla
 put-rows-loop-less t c = search needs
 
 pub put-rows-loop-again : (t : ℕ) → put-rows-lts.Need-loop-again (put-rows-claims t) (put-rows-at t) put-rows.Post put-rows-Inv-loop put-rows-μ-loop
-put-rows-loop-again t c = rw (c .before .anew .ensures) (step _ _ _ _ _ _ _ _ _ _ _ _ _ _ _ _ _ (c .before .before .before .before .before .before .before .loop .inv) (c .before .before .before .before .before .before .loop-test .taken) (c .before .before .before .before .put-row .ensures))
+put-rows-loop-again t c = (step _ _ _ _ _ _ _ _ _ _ _ _ _ _ _ _ _ (c .before .before .before .before .before .before .before .loop .inv) (c .before .before .before .before .before .before .loop-test .taken) (c .before .before .before .before .put-row .ensures))
 
 pub put-rows-same-length : (t : ℕ) → put-rows-lts.Need-same-length (put-rows-claims t) (put-rows-at t) put-rows.Post put-rows-Inv-loop put-rows-μ-loop
 put-rows-same-length t c = c .before .loop .inv .size

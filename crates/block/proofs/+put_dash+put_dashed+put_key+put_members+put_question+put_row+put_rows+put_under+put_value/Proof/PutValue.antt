@@ -63,17 +63,14 @@ put-value-returns-3 t c = let r = (c .before .before .before .before .before .be
 pub put-value-is-marked-requires : (t : ℕ) → put-value-lts.Need-is-marked-requires (put-value-claims t) (put-value-at t) put-value.Post
 put-value-is-marked-requires t c κs = search needs
 
-pub put-value-anew-requires : (t : ℕ) → put-value-lts.Need-anew-requires (put-value-claims t) (put-value-at t) put-value.Post
-put-value-anew-requires t c κs = search needs
-
 pub put-value-put-below-requires : (t : ℕ) → put-value-lts.Need-put-below-requires (put-value-claims t) (put-value-at t) put-value.Post
-put-value-put-below-requires t c κs = let p = (c .before .before .before .before .before .before .before .before .before .before .before .before .before .before .before .pre) .1 in let r = p .ready in let g = spot-good _ _ _ (r .here) (r .deck-small) (c .before .before .before .before .before .before .before .before .before .before .before .spot-at .ensures) in let e = c .before .before .before .before .before .before .step-of .ensures .1 (r .step) in rw (c .before .anew .ensures) (in-line p _ _ (g .1) (g .2) (omega (arith, e)), g .0, few-spot _ (λ k. omega (arith, c .before .before .before .before .before .before .before .before .before .before .before .before .before .before .shared-slice-known .given k)) _ _ (r .here) (c .before .before .before .before .before .before .before .before .before .before .before .spot-at .ensures), p .flow, p .key)
+put-value-put-below-requires t c κs = let p = (c .before .before .before .before .before .before .before .before .before .before .before .before .before .before .pre) .1 in let r = p .ready in let g = spot-good _ _ _ (r .here) (r .deck-small) (c .before .before .before .before .before .before .before .before .before .before .spot-at .ensures) in let e = c .before .before .before .before .before .step-of .ensures .1 (r .step) in (in-line p _ _ (g .1) (g .2) (omega (arith, e)), g .0, few-spot _ (λ k. omega (arith, c .before .before .before .before .before .before .before .before .before .before .before .before .before .shared-slice-known .given k)) _ _ (r .here) (c .before .before .before .before .before .before .before .before .before .before .spot-at .ensures), p .flow, p .key)
 
 pub put-value-same-length-4 : (t : ℕ) → put-value-lts.Need-same-length-4 (put-value-claims t) (put-value-at t) put-value.Post
 put-value-same-length-4 t c = search needs
 
 pub put-value-returns-4 : (t : ℕ) → put-value-lts.Need-returns-4 (put-value-claims t) (put-value-at t) put-value.Post
-put-value-returns-4 t c = let r = (c .before .before .before .before .before .before .before .before .before .before .before .before .before .before .before .before .before .before .pre) .1 .ready in value-plain _ _ _ _ _ _ _ _ _ _ _ (r .here) (r .deck-small) (c .before .before .before .before .before .before .before .before .before .before .before .before .before .before .spot-at .ensures) (c .before .before .before .before .before .before .before .before .before .before .before .before .before .is-included .ensures) (c .before .before .before .before .before .before .before .before .before .before .before .before .if1 .left) (c .before .before .before .before .before .before .before .before .before .before .before .is-block .ensures) (c .before .before .before .before .before .before .before .before .before .before .if2 .left) (c .before .before .before .before .before .before .before .before .before .step-of .ensures .0) refl (value-below _ _ _ _ _ _ (c .before .before .before .before .before .before .before .before .bare .ensures) (c .before .before .before .before .before .before .before .if3 .left) _ (c .before .before .before .before .before .before .is-marked .ensures) _ (c .before .before .before .before .before .if4 .taken) (rw (c .before .before .before .before .anew .ensures) at (c .before .before .put-below .ensures)))
+put-value-returns-4 t c = let r = (c .before .before .before .before .before .before .before .before .before .before .before .before .before .before .before .before .before .pre) .1 .ready in value-plain _ _ _ _ _ _ _ _ _ _ _ (r .here) (r .deck-small) (c .before .before .before .before .before .before .before .before .before .before .before .before .before .spot-at .ensures) (c .before .before .before .before .before .before .before .before .before .before .before .before .is-included .ensures) (c .before .before .before .before .before .before .before .before .before .before .before .if1 .left) (c .before .before .before .before .before .before .before .before .before .before .is-block .ensures) (c .before .before .before .before .before .before .before .before .before .if2 .left) (c .before .before .before .before .before .before .before .before .step-of .ensures .0) refl (value-below _ _ _ _ _ _ (c .before .before .before .before .before .before .before .bare .ensures) (c .before .before .before .before .before .before .if3 .left) _ (c .before .before .before .before .before .is-marked .ensures) _ (c .before .before .before .before .if4 .taken) ((c .before .before .put-below .ensures)))
 
 pub put-value-put-pad-requires : (t : ℕ) → put-value-lts.Need-put-pad-requires (put-value-claims t) (put-value-at t) put-value.Post
 put-value-put-pad-requires t c κs = search needs

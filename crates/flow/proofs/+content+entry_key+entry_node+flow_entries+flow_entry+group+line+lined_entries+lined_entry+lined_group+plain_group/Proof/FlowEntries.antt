@@ -23,7 +23,7 @@ pub flow-entries-loop-holds : (t : ℕ) → flow-entries-lts.Need-loop-holds (fl
 flow-entries-loop-holds t c = (start _ _ _ _ _ _ _ _ _ _ ((c .before .before .before .pre) .1 .0), (c .before .before .before .pre) .1 .1)
 
 pub flow-entries-put-between-requires : (t : ℕ) → flow-entries-lts.Need-put-between-requires (flow-entries-claims t) (flow-entries-at t) flow-entries.Post flow-entries-Inv-loop flow-entries-μ-loop
-flow-entries-put-between-requires t c κs = let r = c .before .before .loop .inv .0 .ready in let f = r .fit in let o = r .out-small in (omega (arith, f .column, o), omega (arith, o))
+flow-entries-put-between-requires t c κs = let r = c .before .before .loop .inv .0 .ready in let o = r .out-small in omega (arith, o)
 
 pub flow-entries-flow-entry-requires : (t : ℕ) → flow-entries-lts.Need-flow-entry-requires (flow-entries-claims t) (flow-entries-at t) flow-entries.Post flow-entries-Inv-loop flow-entries-μ-loop
 flow-entries-flow-entry-requires t c κs = let g = c .before .before .before .before .before .before .loop .inv .0 in let r = g .ready in let q = (c .before .before .before .before .before .before .before .before .before .before .pre) .0 in (omega (arith, q, g .onward, r .here), (after r _ _ _ (c .before .before .before .put-between .ensures), hushed-first _ _ _ _ _ _ (c .before .before .before .before .before .loop-test .taken) (c .before .before .before .before .before .before .loop .inv .1)))

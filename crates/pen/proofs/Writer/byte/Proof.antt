@@ -1,6 +1,10 @@
-use lib.ListN.{List·getD-eq-default}
+use mathlib.Core.Path.{sym, _∙_}
+use native.Mathlib.Omega.{arith}
+use Prim.Native.Nat.{_≤_}
+use lib.ListN.{length, List·getD-eq-default}
 use lib.Seq.{set-out}
-use Rattle.pen.specs.Pen.{put1}
+use Rattle.pen.specs.Pen.{fields}
+use Rattle.pen.proofs.Texts.{len-kept, byte-put}
 use borrow.Author.Needs.{needs}
 use Rattle.pen.proofs.Writer.byte.Statement.{statement}
 use Rattle.pen.proofs.Writer.byte.Tie as tie
@@ -8,11 +12,11 @@ use Rattle.pen.proofs.Writer.byte.Tie as tie
 add-most : tie.Need-add-most
 add-most c = search needs
 
-column-after-requires : tie.Need-column-after-requires
-column-after-requires c κs = search needs
+len-requires : tie.Need-len-requires
+len-requires c κs = search needs
 
-up-to-requires : tie.Need-up-to-requires
-up-to-requires c κs = search needs
+past-byte-requires : tie.Need-past-byte-requires
+past-byte-requires c κs = search needs
 
 slice-read-edge-of : tie.Need-slice-read-edge-of
 slice-read-edge-of c = search needs
@@ -23,31 +27,41 @@ edge-of-requires c κs = search needs
 slice-write-out : tie.Need-slice-write-out
 slice-write-out c = search needs
 
+put-on-requires : tie.Need-put-on-requires
+put-on-requires c κs = (let e = len-kept (fields (c .before .before .before .before .before .before .args .self)) _ _ (c .before .before .before .past-byte .ensures) in let l = c .before .before .before .before .len .ensures .0 in let h = c .before .before .if1 .taken in let p = c .before .before .before .before .before .before .pre in omega (arith, e, l, h, p), c .edge-of .ensures .2)
+
 same-length : tie.Need-same-length
 same-length c = search needs
 
 returns : tie.Need-returns
-unfolding put1
-returns c = rw (← (c .before .before .before .up-to .ensures), ← (c .before .before .before .before .column-after .ensures), c .edge-of .ensures .0, c .edge-of .ensures .1)
+returns c = byte-put _ _ _ _ _ _ _ (c .put-on .ensures) _ (c .before .before .before .before .past-byte .ensures) (let e = len-kept (fields (c .before .before .before .before .before .before .before .args .self)) _ _ (c .before .before .before .before .past-byte .ensures) in let l = c .before .before .before .before .before .len .ensures .0 in let h = c .before .before .before .if1 .taken in omega (arith, e, l, h)) (c .before .edge-of .ensures .0) (c .before .edge-of .ensures .1 ∙ rw (c .before .before .before .before .before .len .ensures .0)) (rw (c .before .before .before .before .before .len .ensures .0))
+
+up-to-requires : tie.Need-up-to-requires
+up-to-requires c κs = search needs
 
 edge-of-requires-2 : tie.Need-edge-of-requires-2
 edge-of-requires-2 c κs = search needs
 
+put-to-requires : tie.Need-put-to-requires
+put-to-requires c κs = search needs
+
 returns-2 : tie.Need-returns-2
-unfolding put1
-returns-2 c = rw (← (c .before .before .up-to .ensures), ← (c .before .before .before .column-after .ensures), c .edge-of2 .ensures .0, c .edge-of2 .ensures .1, set-out _ _ _ (c .before .if1 .left), List·getD-eq-default _ _ (c .before .if1 .left))
+returns-2 c = let z : length (c .before .before .before .before .before .before .before .args .out .now) ≤ fields (c .before .before .before .before .before .before .before .args .self) .len = (let l = c .before .before .before .before .before .len .ensures .0 in let h = c .before .before .before .if1 .left in omega (arith, l, h)) in byte-put _ _ _ _ _ _ _ (c .put-to .ensures) _ (c .before .before .before .before .past-byte .ensures) (c .before .before .up-to .ensures ∙ rw (c .before .before .before .before .before .len .ensures .0)) (c .before .edge-of2 .ensures .0) (c .before .edge-of2 .ensures .1 ∙ sym (List·getD-eq-default (c .before .before .before .before .before .before .before .args .out .now) 0 z)) (sym (set-out (c .before .before .before .before .before .before .before .args .out .now) _ _ z))
 
 pub byte-spec : {M : Type 1} → statement M
 byte-spec =
     tie.close
     (tie.spec
     add-most
-    column-after-requires
-    up-to-requires
+    len-requires
+    past-byte-requires
     slice-read-edge-of
     edge-of-requires
     slice-write-out
+    put-on-requires
     same-length
     returns
+    up-to-requires
     edge-of-requires-2
+    put-to-requires
     returns-2)

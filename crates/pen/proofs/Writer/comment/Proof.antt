@@ -1,8 +1,8 @@
-use mathlib.Core.Path.{ap}
+use mathlib.Core.Path.{ap, _∙_}
 use Prim.Native.Nat.{_+_}
 use borrow.Author.Tests.{eq-eqb, ne-eqb}
-use Rattle.definition.specs.Base.{spaces}
-use Rattle.definition.specs.Pen.{hashed, inlineText}
+use Rattle.definition.specs.Pen.{inlineText}
+use Rattle.pen.proofs.Texts.{paged}
 use Rattle.pen.specs.Pen.{Pen, page, and-then, noted, withInline}
 use borrow.Author.Needs.{needs}
 use Rattle.pen.proofs.Writer.comment.Statement.{statement}
@@ -24,14 +24,15 @@ spaces-requires c κs = search needs
 hashed-requires : tie.Need-hashed-requires
 hashed-requires c κs = search needs
 
+with-inline-requires : tie.Need-with-inline-requires
+with-inline-requires c κs = search needs
+
 same-length : tie.Need-same-length
 same-length c = search needs
 
 returns-2 : tie.Need-returns-2
-unfolding noted inlineText withInline
-returns-2 c =
-    rw (ne-eqb _ _ (c .before .before .before .before .before .before .before .before .before .if1 .left))
-    (ap (λ (p : Pen). page (withInline (c .before .before .before .before .before .before .before .before .before .before .before .before .before .args .place + 1) (p .w)) (p .out)) (and-then _ _ _ (rw (c .before .before .before .before .before .before .before .at-least-one .ensures) at (c .before .before .before .before .before .before .spaces .ensures)) (c .before .before .hashed .ensures)))
+unfolding noted inlineText
+returns-2 c = rw (ne-eqb _ _ (c .before .before .before .before .before .before .before .before .before .before .if1 .left)) (paged (c .with-inline .ensures) ∙ ap (λ (p : Pen). page (withInline (c .before .before .before .before .before .before .before .before .before .before .before .before .before .before .args .place + 1) (p .w)) (p .out)) (and-then _ _ _ (rw (c .before .before .before .before .before .before .before .before .at-least-one .ensures) at (c .before .before .before .before .before .before .before .spaces .ensures)) (c .before .before .before .hashed .ensures)))
 
 pub comment-spec : {M : Type 1} → statement M
 comment-spec =
@@ -42,5 +43,6 @@ comment-spec =
     at-least-one-requires
     spaces-requires
     hashed-requires
+    with-inline-requires
     same-length
     returns-2)

@@ -1,27 +1,26 @@
-use mathlib.Core.Path.{_≡_}
-use Prim.Native.Nat.{_+_, _-_, _/_, _%_}
-use native.Mathlib.Omega.{arith}
-use Rattle.pen.specs.Pen.{withKey}
+use mathlib.Core.Path.{ap}
+use mathlib.Core.List.{[]}
+use Rattle.pen.specs.Pen.{Fields, page, withKey}
+use Rattle.pen.proofs.Kept.{says, same-counts, other-key}
 use borrow.Author.Needs.{needs}
 use Rattle.pen.proofs.Writer.with_key.Statement.{statement}
 use Rattle.pen.proofs.Writer.with_key.Tie as tie
 
-sub-self : tie.Need-sub-self
-sub-self c = search needs
+mul-self : tie.Need-mul-self
+mul-self c = search needs
+
+mul-self-2 : tie.Need-mul-self-2
+mul-self-2 c = search needs
 
 add-self : tie.Need-add-self
 add-self c = search needs
 
+add-self-2 : tie.Need-add-self-2
+add-self-2 c = search needs
+
 returns : tie.Need-returns
 unfolding withKey
-returns c =
-    let n = c .before .before .args .n in
-    let m = c .before .before .args .self .mode in
-    let h = c .before .before .pre in
-    let e : (m - m % 2 + n) / 4 ≡ m / 4 = omega arith in
-    let f : (m - m % 2 + n) / 2 % 2 ≡ m / 2 % 2 = omega arith in
-    let g : (m - m % 2 + n) % 2 ≡ n = omega arith in
-    rw (e, f, g)
+returns c = ap (λ (w : Fields). page w []) (says _ (same-counts _) (other-key _ _ (c .before .before .pre)))
 
 pub with-key-spec : {M : Type 1} → statement M
-with-key-spec = tie.close (tie.spec sub-self add-self returns)
+with-key-spec = tie.close (tie.spec mul-self mul-self-2 add-self add-self-2 returns)
