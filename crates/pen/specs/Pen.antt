@@ -27,7 +27,8 @@ pub record Fields : Type 0 where
   pub inline : ℕ
   pub raw : ℕ
 
--- and how it keeps that in its two numbers
+-- and how it keeps that in its two numbers: from 2^22 and 2^45 on the second and third of the counts; from 2^8, 2^16, 2^17, 2^18 and 2^36 on the parts
+-- of the state after the first
 abbrev pub fields : Writer → Fields
 fields w =
     record {

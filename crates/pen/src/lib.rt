@@ -14,15 +14,33 @@ ghost use Rattle.terms.specs.Terms.{settingsIn};
 ghost use Rattle.pen.specs.Pen.{fields, pen, put1, puts, columnOver, columnPast, atColumn, putTo, lineEnded, withFlow, withKey, withInline, withRaw, noted, rawed, unput, ended};
 ghost use Rattle.pen.specs.Shown.{begun};
 
-// A writer keeps nine numbers in two, so that it goes from call to call in two registers (docs/DECISIONS.md). What it says is `fields`.
-// `counts`: how many bytes were put, at most the room and two; 2^22 times one more than where the last raw text ended without a line break, 0 at the
-// start; 2^45 times one more than the place of the node whose inline comment was written last, 0 at the start.
-// `state`: what the byte put last was put over, 0 past the room; 2^8 times that byte, 0 at the start; 2^16 inside an inline key; 2^17 where columns are
-// kept; 2^18 times how many flow collections are open; 2^36 times the columns since the last line break, at most the room and two.
+// A writer keeps nine numbers in two, since it goes in and comes back at every call (docs/DECISIONS.md). What it says is `fields`.
+// `counts`: how many bytes were put, at most the room and two; RAW times one more than where the last raw text ended without a line break, 0 at the
+// start; INLINE times one more than the place of the node whose inline comment was written last, 0 at the start.
+// `state`: what the byte put last was put over, 0 past the room; 256 times that byte, 0 at the start; KEY inside an inline key; TRACKS where columns are
+// kept; FLOW times how many flow collections are open; COLUMN times the columns since the last line break, at most the room and two.
 pub struct Writer {
     pub counts: usize,
     pub state: usize,
 }
+
+// 2^22, and 2^45: RAWS times as much.
+const RAW: usize = 4194304;
+
+const RAWS: usize = 8388608;
+
+const INLINE: usize = 35184372088832;
+
+// 2^16, 2^17, 2^18, and 2^36: FLOWS times as much.
+const KEY: usize = 65536;
+
+const TRACKS: usize = 131072;
+
+const FLOW: usize = 262144;
+
+const FLOWS: usize = 262144;
+
+const COLUMN: usize = 68719476736;
 
 // Two bytes in one number.
 fn edge_of(last: u8, under: u8) -> usize
@@ -162,7 +180,7 @@ pub fn fresh_writer(terms: Terms) -> Writer
     }
     Writer {
         counts: 0,
-        state: 131072,
+        state: TRACKS,
     }
 }
 
@@ -181,34 +199,34 @@ impl Writer {
     pub fn len(self) -> usize
         ensures { λ r. ⌜ (r ≡ fields self .len) × (r < 2 ^ 22) ⌝ }
     {
-        self.counts % 4194304
+        self.counts % RAW
     }
 
     pub fn column(self) -> usize
         ensures { λ r. ⌜ (r ≡ fields self .column) × (r < 2 ^ 28) ⌝ }
     {
-        self.state / 68719476736
+        self.state / COLUMN
     }
 
     // How many flow collections are open.
     pub fn flow(self) -> usize
         ensures { λ r. ⌜ r ≡ fields self .flow ⌝ }
     {
-        self.state / 262144 % 262144
+        self.state / FLOW % FLOWS
     }
 
     // Not 0 inside an inline key.
     pub fn key(self) -> usize
         ensures { λ r. ⌜ r ≡ fields self .key ⌝ }
     {
-        self.state / 65536 % 2
+        self.state / KEY % 2
     }
 
     // Columns are kept.
     fn is_tracking(self) -> bool
         ensures { λ r. ⌜ r ≡ not (eqb (fields self .tracks) 0) ⌝ }
     {
-        self.state / 131072 % 2 != 0
+        self.state / TRACKS % 2 != 0
     }
 
     // The byte put last.
@@ -222,7 +240,7 @@ impl Writer {
     fn raw(self) -> usize
         ensures { λ r. ⌜ r ≡ fields self .raw ⌝ }
     {
-        self.counts / 4194304 % 8388608
+        self.counts / RAW % RAWS
     }
 
     // The same with another depth of flow collections, or another key mark.
@@ -230,7 +248,7 @@ impl Writer {
         requires { ⌜ n < 2 ^ 18 ⌝ }
         ensures { λ r. ⌜ pen r [] ≡ withFlow n (pen self []) ⌝ }
     {
-        self.state = self.state / 68719476736 * 68719476736 + n * 262144 + self.state % 262144;
+        self.state = self.state / COLUMN * COLUMN + n * FLOW + self.state % FLOW;
         self
     }
 
@@ -238,7 +256,7 @@ impl Writer {
         requires { ⌜ n < 2 ⌝ }
         ensures { λ r. ⌜ pen r [] ≡ withKey n (pen self []) ⌝ }
     {
-        self.state = self.state / 131072 * 131072 + n * 65536 + self.state % 65536;
+        self.state = self.state / TRACKS * TRACKS + n * KEY + self.state % KEY;
         self
     }
 
@@ -247,7 +265,7 @@ impl Writer {
         requires { ⌜ mark < 2 ^ 19 ⌝ }
         ensures { λ r. ⌜ fields r ≡ withInline mark (fields self) ⌝ }
     {
-        self.counts = mark * 35184372088832 + self.counts % 35184372088832;
+        self.counts = mark * INLINE + self.counts % INLINE;
         self
     }
 
@@ -255,9 +273,7 @@ impl Writer {
         requires { ⌜ mark < 2 ^ 23 ⌝ }
         ensures { λ r. ⌜ fields r ≡ withRaw mark (fields self) ⌝ }
     {
-        self.counts = self.counts / 35184372088832 * 35184372088832
-            + mark * 4194304
-            + self.counts % 4194304;
+        self.counts = self.counts / INLINE * INLINE + mark * RAW + self.counts % RAW;
         self
     }
 
@@ -266,7 +282,7 @@ impl Writer {
         requires { ⌜ column < 2 ^ 28 ⌝ }
         ensures { λ r. ⌜ fields r ≡ atColumn column (fields self) ⌝ }
     {
-        self.state = column * 68719476736 + self.state % 68719476736;
+        self.state = column * COLUMN + self.state % COLUMN;
         self
     }
 
@@ -275,8 +291,8 @@ impl Writer {
         requires { ⌜ (len < 2 ^ 22) × (edge < 65536) ⌝ }
         ensures { λ r. ⌜ fields r ≡ putTo len (edge / 256) (edge % 256) (fields self) ⌝ }
     {
-        self.counts = self.counts / 4194304 * 4194304 + len;
-        self.state = self.state / 65536 * 65536 + edge;
+        self.counts = self.counts / RAW * RAW + len;
+        self.state = self.state / KEY * KEY + edge;
         self
     }
 
@@ -286,7 +302,7 @@ impl Writer {
         ensures { λ r. ⌜ fields r ≡ putTo (fields self .len + n) (edge / 256) (edge % 256) (fields self) ⌝ }
     {
         self.counts += n;
-        self.state = self.state / 65536 * 65536 + edge;
+        self.state = self.state / KEY * KEY + edge;
         self
     }
 
@@ -412,7 +428,7 @@ impl Writer {
         ensures { λ r. ⌜ pen r (now (out .exit)) ≡ noted place (record { text = now (t .entry); spaces = before }) (pen self (now (out .entry))) ⌝ }
     {
         let mark = place + 1;
-        if self.counts / 35184372088832 == mark {
+        if self.counts / INLINE == mark {
             return self;
         }
         let w = self.spaces(out, at_least_one(before));
