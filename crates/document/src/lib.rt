@@ -30,16 +30,14 @@ fn put_dashes(w: Writer, out: &mut [u8]) -> Writer
     requires { ⌜ length (now out) < 2 ^ 21 ⌝ }
     ensures { λ r. ⌜ Draws dashes (pen w (now (out .entry))) (pen r (now (out .exit))) ⌝ }
 {
-    let w1 = w.text(out, b"---");
-    w1.byte(out, b'\n')
+    w.text(out, b"---\n")
 }
 
 fn put_dots(w: Writer, out: &mut [u8]) -> Writer
     requires { ⌜ length (now out) < 2 ^ 21 ⌝ }
     ensures { λ r. ⌜ Draws dots (pen w (now (out .entry))) (pen r (now (out .exit))) ⌝ }
 {
-    let w1 = w.text(out, b"...");
-    w1.byte(out, b'\n')
+    w.text(out, b"...\n")
 }
 
 // The byte order mark, where mark 64 is set.
