@@ -1,7 +1,9 @@
 // Quoted bodies, block scalars, lines with comments, scalars and separators, each into an empty output. A row has a first step, which takes the
 // text, and two that may follow, which take the note.
 ghost use Prim.Native.Nat.{_≤_, _<_, _^_};
+ghost use mathlib.Core.Path.{_≡_};
 ghost use lib.ListN.{length};
+ghost use Rattle.pen.specs.Pen.{fields};
 use definition::NullStyle;
 use definition::Settings;
 use definition::Style;
@@ -56,6 +58,7 @@ fn plain_but(width: usize, single_quotes: bool) -> Terms
 // A writer in an empty output that stands at a column. Columns are kept under any width but 0.
 fn fresh(column: usize) -> Writer
     requires { ⌜ column < 65536 ⌝ }
+    ensures { λ r. ⌜ fields r .column ≡ column ⌝ }
 {
     let w = pen::fresh_writer(plain_but(1, false));
     w.at_column(column)

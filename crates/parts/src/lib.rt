@@ -53,7 +53,17 @@ fn put_prop(
     put_if(w3, out, ended, b' ')
 }
 
-// A tag and an anchor, where they are there: each after a space, or each with a space after it.
+// A tag or an anchor is there.
+pub fn is_either(tag: Held, anchor: Held) -> bool
+    ensures { λ r. ⌜ r ≡ hasHeld tag || hasHeld anchor ⌝ }
+{
+    if tag.at != 0 {
+        return true;
+    }
+    anchor.at != 0
+}
+
+// A tag and an anchor, where they are there: each after a space, or each with a space after it. Most nodes have neither: that is tested first.
 fn put_both(
     w: Writer,
     deck: &[u8],
@@ -66,12 +76,15 @@ fn put_both(
     requires { ⌜ length (now out) < 2 ^ 21 ⌝ }
     ensures { λ r. ⌜ Draws (propsBy compact (heldOf (now (deck .entry)) (now (pool .entry)) tag) (heldOf (now (deck .entry)) (now (pool .entry)) anchor)) (pen w (now (out .entry))) (pen r (now (out .exit))) ⌝ }
 {
-    let ended = !compact;
-    let w1 = put_prop(w, deck, pool, out, compact, false, tag, ended);
-    put_prop(w1, deck, pool, out, compact, true, anchor, ended)
+    if is_either(tag, anchor) {
+        let ended = !compact;
+        let w1 = put_prop(w, deck, pool, out, compact, false, tag, ended);
+        return put_prop(w1, deck, pool, out, compact, true, anchor, ended);
+    }
+    w
 }
 
-// `emit_anchor_tag`. Most nodes have neither: that is tested here, so that the writer is not handed on for nothing.
+// `emit_anchor_tag`
 pub fn put_props(
     w: Writer,
     deck: &[u8],
@@ -83,31 +96,15 @@ pub fn put_props(
     requires { ⌜ length (now out) < 2 ^ 21 ⌝ }
     ensures { λ r. ⌜ Draws (propsOf (heldOf (now (deck .entry)) (now (pool .entry)) tag) (heldOf (now (deck .entry)) (now (pool .entry)) anchor)) (pen w (now (out .entry))) (pen r (now (out .exit))) ⌝ }
 {
-    if is_either(tag, anchor) {
-        return put_both(w, deck, pool, out, false, tag, anchor);
-    }
-    w
+    put_both(w, deck, pool, out, false, tag, anchor)
 }
 
-// `emit_anchor_tag_compact`, with the same test.
+// `emit_anchor_tag_compact`
 pub fn put_props_compact(w: Writer, deck: &[u8], pool: &[u8], out: &mut [u8], lead: Lead) -> Writer
     requires { ⌜ length (now out) < 2 ^ 21 ⌝ }
     ensures { λ r. ⌜ Draws (propsCompact (broughtOf (now (deck .entry)) (now (pool .entry)) lead)) (pen w (now (out .entry))) (pen r (now (out .exit))) ⌝ }
 {
-    if is_either(lead.tag, lead.anchor) {
-        return put_both(w, deck, pool, out, true, lead.tag, lead.anchor);
-    }
-    w
-}
-
-// A tag or an anchor is there.
-pub fn is_either(tag: Held, anchor: Held) -> bool
-    ensures { λ r. ⌜ r ≡ hasHeld tag || hasHeld anchor ⌝ }
-{
-    if tag.at != 0 {
-        return true;
-    }
-    anchor.at != 0
+    put_both(w, deck, pool, out, true, lead.tag, lead.anchor)
 }
 
 // `emit_anchor_tag_line`

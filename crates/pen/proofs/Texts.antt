@@ -10,7 +10,7 @@ use lib.Dec.{eqb, leb}
 use borrow.Author.Tests.{leb-true, leb-false, le-leb, lt-leb}
 use mathlib.Core.Bool.{Bool, true, false, not, true≢false}
 use Rattle.definition.specs.Base.{Bytes, if_then_else_}
-use Rattle.pen.specs.Pen.{Fields, Pen, page, moved, putTo, atColumn, columnAfter, columnOver, columnPast, put1, puts}
+use Rattle.pen.specs.Pen.{Fields, Pen, page, moved, putTo, atColumn, nextColumn, columnAfter, columnOver, columnPast, put1, puts}
 
 -- ---- room
 
@@ -76,12 +76,12 @@ filled b n o o′ at i z h e inv =
 -- ---- the column
 
 -- it goes by the byte
-pub column-on : (most c c′ i : ℕ) (t : Bytes) (z : ℕ) → i < length t → c′ ≡ (if eqb (getD t i 0) 10 then 0 else min (c + 1) most)
+pub column-on : (most c c′ i : ℕ) (t : Bytes) (z : ℕ) → i < length t → c′ ≡ nextColumn most c (getD t i 0)
     → columnOver most c (drop i t) ≡ z → columnOver most c′ (drop (i + 1) t) ≡ z
 unfolding columnOver
 column-on most c c′ i t z h e inv = rw (add-one, e) (rw (drop-cons t i 0 h) at inv)
 
-pub column-again : (most c c′ b n z : ℕ) → 0 < n → c′ ≡ (if eqb b 10 then 0 else min (c + 1) most)
+pub column-again : (most c c′ b n z : ℕ) → 0 < n → c′ ≡ nextColumn most c b
     → columnOver most c (replicate n b) ≡ z → columnOver most c′ (replicate (n - 1) b) ≡ z
 unfolding columnOver
 column-again most c c′ b zero z h e inv = absurd (omega arith)
@@ -92,8 +92,8 @@ past-step : (w : Fields) (most b : ℕ) (t : Bytes) → columnPast w most (b ∷
 unfolding columnPast columnAfter columnOver
 past-step w most b t = go (eqb (w .tracks) 0)
   where
-    go : (k : Bool) → (if k then w .column else columnOver most (if eqb b 10 then 0 else min (w .column + 1) most) t)
-        ≡ (if k then (if k then w .column else if eqb b 10 then 0 else min (w .column + 1) most) else columnOver most (if k then w .column else if eqb b 10 then 0 else min (w .column + 1) most) t)
+    go : (k : Bool) → (if k then w .column else columnOver most (nextColumn most (w .column) b) t)
+        ≡ (if k then (if k then w .column else nextColumn most (w .column) b) else columnOver most (if k then w .column else nextColumn most (w .column) b) t)
     go true = refl
     go false = refl
 

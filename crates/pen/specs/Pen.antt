@@ -96,16 +96,18 @@ page w o = record { w = w; out = o }
 abbrev pub pen : Writer → Bytes → Pen
 pen w o = page (fields w) o
 
--- the column after a byte, `most` at most
-unfoldable pub columnAfter : Fields → ℕ → ℕ → ℕ
-columnAfter w most b = if eqb (w .tracks) 0 then w .column else if eqb b LF then 0 else min (w .column + 1) most
+-- the column after a byte at a column, `most` at most; after a text
+abbrev pub nextColumn : ℕ → ℕ → ℕ → ℕ
+nextColumn most c b = if eqb b LF then 0 else min (c + 1) most
 
--- the column after a text that begins at a column, where columns are kept
 unfoldable pub columnOver : ℕ → ℕ → Bytes → ℕ
 columnOver most c [] = c
-columnOver most c (b ∷ t) = columnOver most (if eqb b LF then 0 else min (c + 1) most) t
+columnOver most c (b ∷ t) = columnOver most (nextColumn most c b) t
 
--- and of a writer that may keep none
+-- the same of a writer, which may keep no columns
+unfoldable pub columnAfter : Fields → ℕ → ℕ → ℕ
+columnAfter w most b = if eqb (w .tracks) 0 then w .column else nextColumn most (w .column) b
+
 unfoldable pub columnPast : Fields → ℕ → Bytes → ℕ
 columnPast w most t = if eqb (w .tracks) 0 then w .column else columnOver most (w .column) t
 

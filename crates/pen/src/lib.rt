@@ -4,14 +4,14 @@ use terms::Terms;
 ghost use mathlib.Core.Path.{_≡_};
 ghost use Prim.Native.Nat.{_+_, _-_, _/_, _%_, _<_, _≤_, _^_, min, max};
 ghost use mathlib.Core.Bool.{not};
-ghost use mathlib.Core.List.{[], _∷_};
+ghost use mathlib.Core.List.{[]};
 ghost use lib.ListN.{length, replicate};
 ghost use lib.Seq.{sets};
 ghost use lib.Dec.{eqb, leb};
-ghost use Rattle.definition.specs.Base.{if_then_else_, spaces};
+ghost use Rattle.definition.specs.Base.{spaces};
 ghost use Rattle.definition.specs.Pen.{hashed, endsClosed};
 ghost use Rattle.terms.specs.Terms.{settingsIn};
-ghost use Rattle.pen.specs.Pen.{fields, pen, put1, puts, columnOver, columnPast, atColumn, putTo, lineEnded, withFlow, withKey, withInline, withRaw, noted, rawed, unput, ended};
+ghost use Rattle.pen.specs.Pen.{fields, pen, put1, puts, nextColumn, columnOver, columnPast, atColumn, putTo, lineEnded, withFlow, withKey, withInline, withRaw, noted, rawed, unput, ended};
 ghost use Rattle.pen.specs.Shown.{begun};
 
 // A writer keeps nine numbers in two, since it goes in and comes back at every call (docs/DECISIONS.md). What it says is `fields`.
@@ -63,7 +63,7 @@ fn up_to(n: usize, most: usize) -> usize
 // The column after a byte that was at `column` before it.
 fn next_column(column: usize, most: usize, b: u8) -> usize
     requires { ⌜ most < 2 ^ 28 ⌝ }
-    ensures { λ r. ⌜ (r ≡ (if eqb b 10 then 0 else min (column + 1) most)) × (r < 2 ^ 28) ⌝ }
+    ensures { λ r. ⌜ (r ≡ nextColumn most column b) × (r < 2 ^ 28) ⌝ }
 {
     if b == b'\n' {
         return 0;
@@ -306,17 +306,7 @@ impl Writer {
         self
     }
 
-    // The same at the column after a byte, a text, or one byte again and again.
-    fn past_byte(self, most: usize, b: u8) -> Self
-        requires { ⌜ most < 2 ^ 28 ⌝ }
-        ensures { λ r. ⌜ fields r ≡ atColumn (columnPast (fields self) most (b ∷ [])) (fields self) ⌝ }
-    {
-        if self.is_tracking() {
-            return self.at_column(next_column(self.column(), most, b));
-        }
-        self
-    }
-
+    // The same at the column after a text, or after one byte again and again.
     fn past_text(self, most: usize, t: &[u8]) -> Self
         requires { ⌜ most < 2 ^ 28 ⌝ }
         ensures { λ r. ⌜ fields r ≡ atColumn (columnPast (fields self) most (now (t .entry))) (fields self) ⌝ }
@@ -343,7 +333,7 @@ impl Writer {
     {
         let most = out.len() + 2;
         let len = self.len();
-        let w = self.past_byte(most, b);
+        let w = self.past_again(most, b, 1);
         if len < out.len() {
             let edge = edge_of(b, out[len]);
             out[len] = b;
