@@ -15,12 +15,12 @@ use Rattle.deck.specs.Kids.{twice}
 use Rattle.node.specs.Total.{treeAt}
 use Rattle.node.specs.Loud.{loud, loudKind, someOf, loudFrom, loud-items, loud-pairs}
 use Rattle.node.specs.Ends.{Still}
-use Rattle.spot.specs.declared.Body.the-variants as body
 use Rattle.spot.specs.declared.Spot.{Spot}
 use Rattle.spot.specs.Spot.{kindOf, kindIn, nodeIn, spotAt, tree-value}
 use Rattle.choices.specs.Siblings.{someFrom, SomeItems, SomePairs, some-items, some-pairs}
 use Rattle.joints.specs.Entries.{nextAt, lastOf, entryEnd, someComments}
 use Rattle.flow.specs.Hushed.{treesIn, Hushed, HushedIn, Quiet, Lined}
+use Rattle.flow.proofs.Laws.{grouped}
 
 -- ---- trees one after another: the first, and the others
 
@@ -44,13 +44,10 @@ none-of deck pool c = refl
 module _ (deck pool : Bytes) (still : Bool) where
   -- ---- of a node, what is below it
 
-  pub hushed-items : (x : Spot) (g : Group) → x .body ≡ body.Sequence g → HushedIn deck pool still x → Hushed deck pool still (treesIn false (g .count)) (x .next)
+  pub hushed-grouped : (pairs : Bool) (x : Spot) (g : Group) → x .body ≡ grouped pairs g → HushedIn deck pool still x → Hushed deck pool still (treesIn pairs (g .count)) (x .next)
   unfolding treesIn kindOf loudKind loudFrom
-  hushed-items x g b h = record { told = λ e. sym (loud-items (treeAt deck pool) (g .count) (x .next)) ∙ rw b at (h .told e) }
-
-  pub hushed-pairs : (x : Spot) (g : Group) → x .body ≡ body.Mapping g → HushedIn deck pool still x → Hushed deck pool still (treesIn true (g .count)) (x .next)
-  unfolding treesIn kindOf loudKind loudFrom
-  hushed-pairs x g b h = record { told = λ e. sym (loud-pairs (treeAt deck pool) (g .count) (x .next)) ∙ rw b at (h .told e) }
+  hushed-grouped false x g b h = record { told = λ e. sym (loud-items (treeAt deck pool) (g .count) (x .next)) ∙ rw b at (h .told e) }
+  hushed-grouped true x g b h = record { told = λ e. sym (loud-pairs (treeAt deck pool) (g .count) (x .next)) ∙ rw b at (h .told e) }
 
   -- ---- of entries, the first and the others
 

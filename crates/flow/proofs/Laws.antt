@@ -25,6 +25,7 @@ use Rattle.pen.specs.declared.Writer.{Writer}
 use Rattle.pen.specs.Pen.{Pen, pen, put1, puts, ink, fields, page, withFlow, withKey}
 use Rattle.scripts.specs.Keep.{ink-in-flow, ink-in-key, flow-of, key-of, length-of}
 use Rattle.pen.specs.Draws.{Draws}
+use Rattle.spot.specs.declared.Body.{Body}
 use Rattle.spot.specs.declared.Body.the-variants as body
 use Rattle.spot.specs.declared.Spot.{Spot}
 use Rattle.spot.specs.Spot.{kindOf, endOf, keptIn, broughtIn, kindIn, endIn, nodeIn, spotAt, tree-value}
@@ -89,6 +90,11 @@ last-is (suc m) = ne-eqb (suc (suc m)) 1 (λ e. absurd (omega arith))
 
 -- ---- the content of a node
 
+-- a collection: of pairs, or of items
+abbrev pub grouped : Bool → Group → Body
+grouped true g = body.Mapping g
+grouped false g = body.Sequence g
+
 module _ (s : Settings) (deck pool : Bytes) where
   -- a node without children
   leaf-emits : (x : Spot) (a : Script) {P Q : Pen} → Good deck x → endIn deck pool x ≡ x .next → Q ≡ ink s a P → Emits s a P Q (x .place) (endIn deck pool x) (x .next) (length deck)
@@ -132,35 +138,21 @@ module _ (s : Settings) (deck pool : Bytes) where
         within = e .within;
       }
 
-  pub content-items :
-      (x : Spot) (g : Group) (i : ℕ) {P Q : Pen} {r : Cursor} → Good deck x → x .body ≡ body.Sequence g
-      → Emits s (groupOf deck pool s true (K P) i false (g .count) (x .next)) P Q (x .next .at) (runEnd deck pool false (g .count) (x .next)) r (length deck)
+  pub content-grouped :
+      (pairs : Bool) (x : Spot) (g : Group) (i : ℕ) {P Q : Pen} {r : Cursor} → Good deck x → x .body ≡ grouped pairs g
+      → Emits s (groupOf deck pool s true (K P) i pairs (g .count) (x .next)) P Q (x .next .at) (runEnd deck pool pairs (g .count) (x .next)) r (length deck)
       → Emits s (contentIn P i x) P Q (x .place) (endIn deck pool x) r (length deck)
   unfolding kindOf endOf
-  content-items x g i {P} h b e =
+  content-grouped false x g i {P} h b e =
       content-group x false (g .count) i h
       (rw b (group-items deck pool s (K P) (F P) i (x .place) (keptIn deck pool x) (broughtIn deck pool x) (g .form) (g .count) (x .next) P))
       (rw b (items-end deck pool (g .count) (x .next)))
       e
-
-  pub content-pairs :
-      (x : Spot) (g : Group) (i : ℕ) {P Q : Pen} {r : Cursor} → Good deck x → x .body ≡ body.Mapping g
-      → Emits s (groupOf deck pool s true (K P) i true (g .count) (x .next)) P Q (x .next .at) (runEnd deck pool true (g .count) (x .next)) r (length deck)
-      → Emits s (contentIn P i x) P Q (x .place) (endIn deck pool x) r (length deck)
-  unfolding kindOf endOf
-  content-pairs x g i {P} h b e =
+  content-grouped true x g i {P} h b e =
       content-group x true (g .count) i h
       (rw b (group-pairs deck pool s (K P) (F P) i (x .place) (keptIn deck pool x) (broughtIn deck pool x) (g .form) (g .count) (x .next) P))
       (rw b (pairs-end deck pool (g .count) (x .next)))
       e
-
-  pub items-deeper : (x : Spot) (g : Group) → Good deck x → x .body ≡ body.Sequence g → x .place < x .next .at
-  unfolding isGroup
-  items-deeper x g h b = h .deeper (rw b)
-
-  pub pairs-deeper : (x : Spot) (g : Group) → Good deck x → x .body ≡ body.Mapping g → x .place < x .next .at
-  unfolding isGroup
-  pairs-deeper x g h b = h .deeper (rw b)
 
   -- ---- a flow collection: its entries on lines of their own, or on one line
 
@@ -190,15 +182,15 @@ module _ (s : Settings) (deck pool : Bytes) where
 
   -- the same of writers, by the depth that was read
   pub deeper-is :
-      (i : ℕ) (pairs : Bool) (n : ℕ) (c r r′ : Cursor) (f : ℕ) (w v x u : Writer) (out out′ : Bytes) → f ≡ fields w .flow → pen v [] ≡ withFlow (f + 1) (pen w [])
+      (i : ℕ) (pairs : Bool) (n : ℕ) (c r : Cursor) (f : ℕ) (w v x u : Writer) (out out′ : Bytes) → f ≡ fields w .flow → pen v [] ≡ withFlow (f + 1) (pen w [])
       → Emits s (groupOf deck pool s (on (fields v .flow)) (on (fields v .key)) i pairs n c) (pen v out) (pen x out′) (c .at) (runEnd deck pool pairs n c) r (length deck)
-      → pen u [] ≡ withFlow f (pen x []) → r′ ≡ r
-      → Emits s (groupOf deck pool s true (on (fields w .key)) i pairs n c) (pen w out) (pen u out′) (c .at) (runEnd deck pool pairs n c) r′ (length deck)
-  deeper-is i pairs n c r r′ f w v x u out out′ g a e b q =
+      → pen u [] ≡ withFlow f (pen x [])
+      → Emits s (groupOf deck pool s true (on (fields w .key)) i pairs n c) (pen w out) (pen u out′) (c .at) (runEnd deck pool pairs n c) r (length deck)
+  deeper-is i pairs n c r f w v x u out out′ g a e b =
       let d = subst (λ (p : Pen). Emits s (groupOf deck pool s (F p) (K p) i pairs n c) p (pen x out′) (c .at) (runEnd deck pool pairs n c) r (length deck)) (flowed-is w v (f + 1) out a ∙ ap (λ (k : ℕ). withFlow (k + 1) (pen w out)) g) e in
       let m : F (withFlow (fields w .flow + 1) (pen w out)) ≡ true = unfold withFlow in on-more (fields w .flow) in
       let k : K (withFlow (fields w .flow + 1) (pen w out)) ≡ on (fields w .key) = unfold withFlow in refl in
-      rw q (deeper (groupOf deck pool s true (on (fields w .key)) i pairs n c) {P = pen w out} (rw (m, k) at d) (flowed-is x u f out′ b ∙ ap (λ (k : ℕ). withFlow k (pen x out′)) g))
+      deeper (groupOf deck pool s true (on (fields w .key)) i pairs n c) {P = pen w out} (rw (m, k) at d) (flowed-is x u f out′ b ∙ ap (λ (k : ℕ). withFlow k (pen x out′)) g)
 
   -- ---- brackets
 
@@ -389,12 +381,13 @@ module _ (s : Settings) (deck pool : Bytes) where
 
   -- inside a flow collection
   pub group-in :
-      (f : ℕ) (w v : Writer) (out : Bytes) (at i to : ℕ) → f ≡ fields w .flow → pen v [] ≡ withFlow (f + 1) (pen w []) → Ready s deck pool (pen w out) at i → at < to → to ≤ length deck
-      → Ready s deck pool (pen v out) to (i + stepOf s)
-  group-in f w v out at i to g e r l m = rw (flowed-is w v (f + 1) out e, g) (inside r to l m)
+      (f : ℕ) (w v : Writer) (out : Bytes) {at i : ℕ} → f ≡ fields w .flow → pen v [] ≡ withFlow (f + 1) (pen w [])
+      → Ready s deck pool (withFlow (fields w .flow + 1) (pen w out)) at i → Ready s deck pool (pen v out) at i
+  group-in f w v out g e r = rw (flowed-is w v (f + 1) out e, g) r
 
   -- the depth is small enough for one more
-  pub depth-small : (f : ℕ) (w : Writer) (out : Bytes) {at i : ℕ} → f ≡ fields w .flow → Ready s deck pool (pen w out) at i → f + 1 < 2 ^ 18
+  pub depth-small : (f : ℕ) (w : Writer) (out : Bytes) {at i : ℕ} → f ≡ fields w .flow → Ready s deck pool (withFlow (fields w .flow + 1) (pen w out)) at i → f + 1 < 2 ^ 18
+  unfolding withFlow
   depth-small f w out e r = let h = r .flow in omega (arith, e, h)
 
   -- ---- the loops over entries: finishing from here ends as finishing from the start would
@@ -486,10 +479,12 @@ module _ (s : Settings) (deck pool : Bytes) where
       → Emits s (linedRun deck pool s (F P₀) (K P₀) i pairs n c) P₀ P (c .at) (runEnd deck pool pairs n c) here (length deck)
   lined-stop i pairs P₀ n c P first left here g z = stop i pairs (linedRuns i pairs P₀) P₀ true n c P first left here g z (lined-done _ _ i pairs left here P _ z (g .same))
 
-pub few-items : (x : Spot) (g : Group) → countIn (x .body) < 65536 → x .body ≡ body.Sequence g → g .count < 65536
+pub few-grouped : (pairs : Bool) (x : Spot) (g : Group) → countIn (x .body) < 65536 → x .body ≡ grouped pairs g → g .count < 65536
 unfolding countIn
-few-items x g h e = rw e at h
+few-grouped true x g h e = rw e at h
+few-grouped false x g h e = rw e at h
 
-pub few-pairs : (x : Spot) (g : Group) → countIn (x .body) < 65536 → x .body ≡ body.Mapping g → g .count < 65536
-unfolding countIn
-few-pairs x g h e = rw e at h
+pub grouped-deeper : (deck : Bytes) (pairs : Bool) (x : Spot) (g : Group) → Good deck x → x .body ≡ grouped pairs g → x .place < x .next .at
+unfolding isGroup
+grouped-deeper deck true x g h b = h .deeper (rw b)
+grouped-deeper deck false x g h b = h .deeper (rw b)

@@ -56,18 +56,7 @@ fn is_lined(deck: &[u8], quiet: bool, pairs: bool, c: Cursor, n: usize) -> bool
     choices::any_comments(deck, c, n)
 }
 
-// Back at a depth of flow collections.
-fn back(e: Emitted, flow: usize) -> Emitted
-    requires { ⌜ flow < 2 ^ 18 ⌝ }
-    ensures { λ r. ⌜ (pen (r .w) [] ≡ withFlow flow (pen (e .w) [])) × (r .next ≡ e .next) ⌝ }
-{
-    let next = e.next;
-    let w = e.w.with_flow(flow);
-    Emitted { w, next }
-}
-
-// `emit_inline_content` of a node. A flow collection is entered and left here, and not in `group`: only there the writer is handed on, so that for
-// a scalar it need not be kept in memory.
+// `emit_inline_content` of a node.
 fn content(
     w: Writer,
     deck: &[u8],
@@ -109,19 +98,33 @@ fn content(
             let v = atoms::put_alias(w, pool, out, t);
             Emitted { w: v, next }
         }
-        Body::Sequence(g) => {
-            let flow = w.flow();
-            let v = w.with_flow(flow + 1);
-            let e = group(v, deck, pool, out, terms, false, g.count, next, i, still);
-            back(e, flow)
-        }
-        Body::Mapping(g) => {
-            let flow = w.flow();
-            let v = w.with_flow(flow + 1);
-            let e = group(v, deck, pool, out, terms, true, g.count, next, i, still);
-            back(e, flow)
-        }
+        Body::Sequence(g) => nested(w, deck, pool, out, terms, false, g.count, next, i, still),
+        Body::Mapping(g) => nested(w, deck, pool, out, terms, true, g.count, next, i, still),
     }
+}
+
+// A flow collection, one level deeper: entered and left here, so that only here the writer is handed on, and a scalar's need not be kept in memory.
+fn nested(
+    w: Writer,
+    deck: &[u8],
+    pool: &[u8],
+    out: &mut [u8],
+    terms: Terms,
+    pairs: bool,
+    n: usize,
+    c: Cursor,
+    i: usize,
+    still: bool,
+) -> Emitted
+    requires { ⌜ (Ready (settingsIn terms) (now deck) (now pool) (withFlow (fields w .flow + 1) (pen w (now out))) (c .at) (i + stepOf (settingsIn terms))) × (n < 65536) × Hushed (now deck) (now pool) still (treesIn pairs n) c ⌝ }
+    ensures { λ r. ⌜ Emits (settingsIn terms) (groupOf (now (deck .entry)) (now (pool .entry)) (settingsIn terms) true (on (fields w .key)) i pairs n c) (pen w (now (out .entry))) (pen (r .w) (now (out .exit))) (c .at) (runEnd (now (deck .entry)) (now (pool .entry)) pairs n c) (r .next) (length (now (deck .entry))) ⌝ }
+{
+    let flow = w.flow();
+    let v = w.with_flow(flow + 1);
+    let e = group(v, deck, pool, out, terms, pairs, n, c, i, still);
+    let next = e.next;
+    let u = e.w.with_flow(flow);
+    Emitted { w: u, next }
 }
 
 // A flow collection of n entries: items, or pairs.

@@ -6,8 +6,8 @@ use Rattle.flow.proofs.Laws.{lined-whole}
 use borrow.Author.Needs.{needs}
 use Prim.Native.Nat.{ℕ}
 use Rattle.flow.proofs.lined_group.Reads as lined-group
-use Rattle.flow.proofs.+content+entry_key+entry_node+flow_entries+flow_entry+group+line+lined_entries+lined_entry+lined_group+plain_group.Lts-lined_group as lined-group-lts
-use Rattle.flow.proofs.+content+entry_key+entry_node+flow_entries+flow_entry+group+line+lined_entries+lined_entry+lined_group+plain_group.Proof.Base.{lined-group-at, lined-group-claims}
+use Rattle.flow.proofs.+content+entry_key+entry_node+flow_entries+flow_entry+group+line+lined_entries+lined_entry+lined_group+nested+plain_group.Lts-lined_group as lined-group-lts
+use Rattle.flow.proofs.+content+entry_key+entry_node+flow_entries+flow_entry+group+line+lined_entries+lined_entry+lined_group+nested+plain_group.Proof.Base.{lined-group-at, lined-group-claims}
 
 pub lined-group-opening-of-requires : (t : ℕ) → lined-group-lts.Need-opening-of-requires (lined-group-claims t) (lined-group-at t) lined-group.Post
 lined-group-opening-of-requires t c κs = search needs

@@ -6,8 +6,8 @@ use Rattle.flow.specs.Hushed.{untold, untold-in}
 use borrow.Author.Needs.{needs}
 use Prim.Native.Nat.{ℕ}
 use Rattle.flow.proofs.lined_entry.Reads as lined-entry
-use Rattle.flow.proofs.+content+entry_key+entry_node+flow_entries+flow_entry+group+line+lined_entries+lined_entry+lined_group+plain_group.Lts-lined_entry as lined-entry-lts
-use Rattle.flow.proofs.+content+entry_key+entry_node+flow_entries+flow_entry+group+line+lined_entries+lined_entry+lined_group+plain_group.Proof.Base.{lined-entry-at, lined-entry-claims}
+use Rattle.flow.proofs.+content+entry_key+entry_node+flow_entries+flow_entry+group+line+lined_entries+lined_entry+lined_group+nested+plain_group.Lts-lined_entry as lined-entry-lts
+use Rattle.flow.proofs.+content+entry_key+entry_node+flow_entries+flow_entry+group+line+lined_entries+lined_entry+lined_group+nested+plain_group.Proof.Base.{lined-entry-at, lined-entry-claims}
 
 pub lined-entry-last-of-requires : (t : ℕ) → lined-entry-lts.Need-last-of-requires (lined-entry-claims t) (lined-entry-at t) lined-entry.Post
 lined-entry-last-of-requires t c κs = search needs

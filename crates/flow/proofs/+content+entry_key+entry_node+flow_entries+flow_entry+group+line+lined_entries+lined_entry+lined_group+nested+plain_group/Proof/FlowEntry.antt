@@ -5,8 +5,8 @@ use Rattle.flow.proofs.Hushes.{hushed-lead, hushed-last}
 use borrow.Author.Needs.{needs}
 use Prim.Native.Nat.{ℕ}
 use Rattle.flow.proofs.flow_entry.Reads as flow-entry
-use Rattle.flow.proofs.+content+entry_key+entry_node+flow_entries+flow_entry+group+line+lined_entries+lined_entry+lined_group+plain_group.Lts-flow_entry as flow-entry-lts
-use Rattle.flow.proofs.+content+entry_key+entry_node+flow_entries+flow_entry+group+line+lined_entries+lined_entry+lined_group+plain_group.Proof.Base.{flow-entry-at, flow-entry-claims}
+use Rattle.flow.proofs.+content+entry_key+entry_node+flow_entries+flow_entry+group+line+lined_entries+lined_entry+lined_group+nested+plain_group.Lts-flow_entry as flow-entry-lts
+use Rattle.flow.proofs.+content+entry_key+entry_node+flow_entries+flow_entry+group+line+lined_entries+lined_entry+lined_group+nested+plain_group.Proof.Base.{flow-entry-at, flow-entry-claims}
 
 pub flow-entry-entry-node-requires : (t : ℕ) → flow-entry-lts.Need-entry-node-requires (flow-entry-claims t) (flow-entry-at t) flow-entry.Post
 flow-entry-entry-node-requires t c κs = let q = (c .before .before .before .before .before .pre) .0 in (omega (arith, q), ((c .before .before .before .before .before .pre) .1 .0, hushed-lead _ _ _ _ _ ((c .before .before .before .before .before .pre) .1 .1)))

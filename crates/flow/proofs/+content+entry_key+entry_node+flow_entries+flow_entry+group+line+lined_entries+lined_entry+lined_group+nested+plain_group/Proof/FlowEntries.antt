@@ -8,8 +8,8 @@ use Rattle.flow.proofs.Hushes.{hushed-first, hushed-rest}
 use borrow.Author.Needs.{needs}
 use Prim.Native.Nat.{ℕ}
 use Rattle.flow.proofs.flow_entries.Reads as flow-entries
-use Rattle.flow.proofs.+content+entry_key+entry_node+flow_entries+flow_entry+group+line+lined_entries+lined_entry+lined_group+plain_group.Lts-flow_entries as flow-entries-lts
-use Rattle.flow.proofs.+content+entry_key+entry_node+flow_entries+flow_entry+group+line+lined_entries+lined_entry+lined_group+plain_group.Proof.Base.{flow-entries-at, flow-entries-claims}
+use Rattle.flow.proofs.+content+entry_key+entry_node+flow_entries+flow_entry+group+line+lined_entries+lined_entry+lined_group+nested+plain_group.Lts-flow_entries as flow-entries-lts
+use Rattle.flow.proofs.+content+entry_key+entry_node+flow_entries+flow_entry+group+line+lined_entries+lined_entry+lined_group+nested+plain_group.Proof.Base.{flow-entries-at, flow-entries-claims}
 
 abbrev pub flow-entries-Inv-loop : flow-entries-lts.InvT-loop
 flow-entries-Inv-loop deck pool out₀ terms pairs n i still v₀ here₀ left₀ first₀ out v here left first =

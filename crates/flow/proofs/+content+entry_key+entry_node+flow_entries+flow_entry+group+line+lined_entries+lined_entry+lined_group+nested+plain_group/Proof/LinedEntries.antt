@@ -7,8 +7,8 @@ use mathlib.Core.Path.{refl}
 use borrow.Author.Needs.{needs}
 use Prim.Native.Nat.{ℕ}
 use Rattle.flow.proofs.lined_entries.Reads as lined-entries
-use Rattle.flow.proofs.+content+entry_key+entry_node+flow_entries+flow_entry+group+line+lined_entries+lined_entry+lined_group+plain_group.Lts-lined_entries as lined-entries-lts
-use Rattle.flow.proofs.+content+entry_key+entry_node+flow_entries+flow_entry+group+line+lined_entries+lined_entry+lined_group+plain_group.Proof.Base.{lined-entries-at, lined-entries-claims}
+use Rattle.flow.proofs.+content+entry_key+entry_node+flow_entries+flow_entry+group+line+lined_entries+lined_entry+lined_group+nested+plain_group.Lts-lined_entries as lined-entries-lts
+use Rattle.flow.proofs.+content+entry_key+entry_node+flow_entries+flow_entry+group+line+lined_entries+lined_entry+lined_group+nested+plain_group.Proof.Base.{lined-entries-at, lined-entries-claims}
 
 abbrev pub lined-entries-Inv-loop : lined-entries-lts.InvT-loop
 lined-entries-Inv-loop deck pool out₀ terms pairs n i v₀ here₀ left₀ out v here left = Going (settingsIn terms) deck pool i pairs (linedRuns (settingsIn terms) deck pool i pairs (pen v₀ out₀)) (pen v₀ out₀) true left₀ here₀ (pen v out) true left here

@@ -5,8 +5,8 @@ use Rattle.flow.proofs.Laws.{plain-whole}
 use borrow.Author.Needs.{needs}
 use Prim.Native.Nat.{ℕ}
 use Rattle.flow.proofs.plain_group.Reads as plain-group
-use Rattle.flow.proofs.+content+entry_key+entry_node+flow_entries+flow_entry+group+line+lined_entries+lined_entry+lined_group+plain_group.Lts-plain_group as plain-group-lts
-use Rattle.flow.proofs.+content+entry_key+entry_node+flow_entries+flow_entry+group+line+lined_entries+lined_entry+lined_group+plain_group.Proof.Base.{plain-group-at, plain-group-claims}
+use Rattle.flow.proofs.+content+entry_key+entry_node+flow_entries+flow_entry+group+line+lined_entries+lined_entry+lined_group+nested+plain_group.Lts-plain_group as plain-group-lts
+use Rattle.flow.proofs.+content+entry_key+entry_node+flow_entries+flow_entry+group+line+lined_entries+lined_entry+lined_group+nested+plain_group.Proof.Base.{plain-group-at, plain-group-claims}
 
 pub plain-group-opening-of-requires : (t : ℕ) → plain-group-lts.Need-opening-of-requires (plain-group-claims t) (plain-group-at t) plain-group.Post
 plain-group-opening-of-requires t c κs = search needs

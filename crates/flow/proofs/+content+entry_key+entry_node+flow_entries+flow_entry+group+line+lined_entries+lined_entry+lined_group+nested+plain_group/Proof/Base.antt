@@ -5,42 +5,44 @@ use borrow.Fn.Kinds.{In}
 use borrow.Fn.PlainCycle.{Measures, is, falls, and}
 use Rattle.flow.proofs.content.Reads as content
 use Rattle.flow.proofs.content.Kinds as content-kinds
-use Rattle.flow.proofs.+content+entry_key+entry_node+flow_entries+flow_entry+group+line+lined_entries+lined_entry+lined_group+plain_group.Lts-content as content-lts
+use Rattle.flow.proofs.+content+entry_key+entry_node+flow_entries+flow_entry+group+line+lined_entries+lined_entry+lined_group+nested+plain_group.Lts-content as content-lts
 use Rattle.flow.proofs.entry_key.Reads as entry-key
 use Rattle.flow.proofs.entry_key.Kinds as entry-key-kinds
-use Rattle.flow.proofs.+content+entry_key+entry_node+flow_entries+flow_entry+group+line+lined_entries+lined_entry+lined_group+plain_group.Lts-entry_key as entry-key-lts
+use Rattle.flow.proofs.+content+entry_key+entry_node+flow_entries+flow_entry+group+line+lined_entries+lined_entry+lined_group+nested+plain_group.Lts-entry_key as entry-key-lts
 use Rattle.flow.proofs.flow_entries.Reads as flow-entries
 use Rattle.flow.proofs.flow_entries.Kinds as flow-entries-kinds
-use Rattle.flow.proofs.+content+entry_key+entry_node+flow_entries+flow_entry+group+line+lined_entries+lined_entry+lined_group+plain_group.Lts-flow_entries as flow-entries-lts
+use Rattle.flow.proofs.+content+entry_key+entry_node+flow_entries+flow_entry+group+line+lined_entries+lined_entry+lined_group+nested+plain_group.Lts-flow_entries as flow-entries-lts
 use Rattle.flow.proofs.flow_entry.Reads as flow-entry
 use Rattle.flow.proofs.flow_entry.Kinds as flow-entry-kinds
-use Rattle.flow.proofs.+content+entry_key+entry_node+flow_entries+flow_entry+group+line+lined_entries+lined_entry+lined_group+plain_group.Lts-flow_entry as flow-entry-lts
+use Rattle.flow.proofs.+content+entry_key+entry_node+flow_entries+flow_entry+group+line+lined_entries+lined_entry+lined_group+nested+plain_group.Lts-flow_entry as flow-entry-lts
 use Rattle.flow.proofs.group.Reads as group
 use Rattle.flow.proofs.group.Kinds as group-kinds
-use Rattle.flow.proofs.+content+entry_key+entry_node+flow_entries+flow_entry+group+line+lined_entries+lined_entry+lined_group+plain_group.Lts-group as group-lts
+use Rattle.flow.proofs.+content+entry_key+entry_node+flow_entries+flow_entry+group+line+lined_entries+lined_entry+lined_group+nested+plain_group.Lts-group as group-lts
 use Rattle.flow.proofs.entry_node.Reads as entry-node
 use Rattle.flow.proofs.entry_node.Kinds as entry-node-kinds
-use Rattle.flow.proofs.+content+entry_key+entry_node+flow_entries+flow_entry+group+line+lined_entries+lined_entry+lined_group+plain_group.Lts-entry_node as entry-node-lts
+use Rattle.flow.proofs.+content+entry_key+entry_node+flow_entries+flow_entry+group+line+lined_entries+lined_entry+lined_group+nested+plain_group.Lts-entry_node as entry-node-lts
 use Rattle.flow.proofs.line.Reads as line
 use Rattle.flow.proofs.line.Kinds as line-kinds
-use Rattle.flow.proofs.+content+entry_key+entry_node+flow_entries+flow_entry+group+line+lined_entries+lined_entry+lined_group+plain_group.Lts-line as line-lts
+use Rattle.flow.proofs.+content+entry_key+entry_node+flow_entries+flow_entry+group+line+lined_entries+lined_entry+lined_group+nested+plain_group.Lts-line as line-lts
 use Rattle.flow.proofs.lined_entries.Reads as lined-entries
 use Rattle.flow.proofs.lined_entries.Kinds as lined-entries-kinds
-use Rattle.flow.proofs.+content+entry_key+entry_node+flow_entries+flow_entry+group+line+lined_entries+lined_entry+lined_group+plain_group.Lts-lined_entries as lined-entries-lts
+use Rattle.flow.proofs.+content+entry_key+entry_node+flow_entries+flow_entry+group+line+lined_entries+lined_entry+lined_group+nested+plain_group.Lts-lined_entries as lined-entries-lts
 use Rattle.flow.proofs.lined_entry.Reads as lined-entry
 use Rattle.flow.proofs.lined_entry.Kinds as lined-entry-kinds
-use Rattle.flow.proofs.+content+entry_key+entry_node+flow_entries+flow_entry+group+line+lined_entries+lined_entry+lined_group+plain_group.Lts-lined_entry as lined-entry-lts
+use Rattle.flow.proofs.+content+entry_key+entry_node+flow_entries+flow_entry+group+line+lined_entries+lined_entry+lined_group+nested+plain_group.Lts-lined_entry as lined-entry-lts
 use Rattle.flow.proofs.lined_group.Reads as lined-group
 use Rattle.flow.proofs.lined_group.Kinds as lined-group-kinds
-use Rattle.flow.proofs.+content+entry_key+entry_node+flow_entries+flow_entry+group+line+lined_entries+lined_entry+lined_group+plain_group.Lts-lined_group as lined-group-lts
+use Rattle.flow.proofs.+content+entry_key+entry_node+flow_entries+flow_entry+group+line+lined_entries+lined_entry+lined_group+nested+plain_group.Lts-lined_group as lined-group-lts
+use Rattle.flow.proofs.nested.Reads as nested
+use Rattle.flow.proofs.nested.Kinds as nested-kinds
+use Rattle.flow.proofs.+content+entry_key+entry_node+flow_entries+flow_entry+group+line+lined_entries+lined_entry+lined_group+nested+plain_group.Lts-nested as nested-lts
 use Rattle.flow.proofs.plain_group.Reads as plain-group
 use Rattle.flow.proofs.plain_group.Kinds as plain-group-kinds
-use Rattle.flow.proofs.+content+entry_key+entry_node+flow_entries+flow_entry+group+line+lined_entries+lined_entry+lined_group+plain_group.Lts-plain_group as plain-group-lts
+use Rattle.flow.proofs.+content+entry_key+entry_node+flow_entries+flow_entry+group+line+lined_entries+lined_entry+lined_group+nested+plain_group.Lts-plain_group as plain-group-lts
 use Rattle.atoms.proofs.put_alias.Reads as put-alias-reads
 use Rattle.atoms.proofs.put_null.Reads as put-null-reads
 use Rattle.atoms.proofs.put_words.Reads as put-words-reads
 use Rattle.choices.proofs.step_of.Reads as step-of-reads
-use Rattle.flow.proofs.back.Reads as back-reads
 use Rattle.flow.proofs.is_lined.Reads as is-lined-reads
 use Rattle.flow.proofs.is_quiet.Reads as is-quiet-reads
 use Rattle.joints.proofs.closing_of.Reads as closing-of-reads
@@ -90,6 +92,9 @@ abbrev pub μ-lined-entry : Measures 3 lined-entry-kinds.ps ℕ
 
 abbrev pub μ-lined-group : Measures 3 lined-group-kinds.ps ℕ
 μ-lined-group κs a = 16 * (length (a .1 .0 .now) - a .1 .1 .1 .1 .1 .1 .1 .0 .at) + 13
+
+abbrev pub μ-nested : Measures 3 nested-kinds.ps ℕ
+μ-nested κs a = 16 * (length (a .1 .0 .now) - a .1 .1 .1 .1 .1 .1 .1 .0 .at) + 15
 
 abbrev pub μ-plain-group : Measures 3 plain-group-kinds.ps ℕ
 μ-plain-group κs a = 16 * (length (a .1 .0 .now) - a .1 .1 .1 .1 .1 .1 .1 .0 .at) + 13
@@ -173,6 +178,12 @@ abbrev pub lined-group-below : ℕ → In 3 lined-group-kinds.ps
 lined-group-below t =
     and 3 lined-group-kinds.ps (falls 3 lined-group-kinds.ps _<_ μ-lined-group t) lined-group.Pre
 
+abbrev pub nested-at : ℕ → In 3 nested-kinds.ps
+nested-at t = and 3 nested-kinds.ps (is 3 nested-kinds.ps μ-nested t) nested.Pre
+
+abbrev pub nested-below : ℕ → In 3 nested-kinds.ps
+nested-below t = and 3 nested-kinds.ps (falls 3 nested-kinds.ps _<_ μ-nested t) nested.Pre
+
 abbrev pub plain-group-at : ℕ → In 3 plain-group-kinds.ps
 plain-group-at t =
     and 3 plain-group-kinds.ps (is 3 plain-group-kinds.ps μ-plain-group t) plain-group.Pre
@@ -191,14 +202,8 @@ content-claims t = (
   put-words-reads.Learnt,
   put-alias-reads.Asked,
   put-alias-reads.Learnt,
-  flow-reads.Asked,
-  flow-reads.Learnt,
-  with-flow-reads.Asked,
-  with-flow-reads.Learnt,
-  group-below t,
-  group.Post,
-  back-reads.Asked,
-  back-reads.Learnt,
+  nested-below t,
+  nested.Post,
 )
 
 abbrev pub entry-key-claims : ℕ → entry-key-lts.Claims
@@ -297,6 +302,16 @@ lined-group-claims t = (
   spaces-reads.Learnt,
   closing-of-reads.Asked,
   closing-of-reads.Learnt,
+)
+
+abbrev pub nested-claims : ℕ → nested-lts.Claims
+nested-claims t = (
+  flow-reads.Asked,
+  flow-reads.Learnt,
+  with-flow-reads.Asked,
+  with-flow-reads.Learnt,
+  group-below t,
+  group.Post,
 )
 
 abbrev pub plain-group-claims : ℕ → plain-group-lts.Claims

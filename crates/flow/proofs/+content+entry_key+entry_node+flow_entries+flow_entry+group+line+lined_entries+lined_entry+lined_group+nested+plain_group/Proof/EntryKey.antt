@@ -4,8 +4,8 @@ use Rattle.flow.proofs.Hushes.{hushed-lead}
 use borrow.Author.Needs.{needs}
 use Prim.Native.Nat.{ℕ}
 use Rattle.flow.proofs.entry_key.Reads as entry-key
-use Rattle.flow.proofs.+content+entry_key+entry_node+flow_entries+flow_entry+group+line+lined_entries+lined_entry+lined_group+plain_group.Lts-entry_key as entry-key-lts
-use Rattle.flow.proofs.+content+entry_key+entry_node+flow_entries+flow_entry+group+line+lined_entries+lined_entry+lined_group+plain_group.Proof.Base.{entry-key-at, entry-key-claims}
+use Rattle.flow.proofs.+content+entry_key+entry_node+flow_entries+flow_entry+group+line+lined_entries+lined_entry+lined_group+nested+plain_group.Lts-entry_key as entry-key-lts
+use Rattle.flow.proofs.+content+entry_key+entry_node+flow_entries+flow_entry+group+line+lined_entries+lined_entry+lined_group+nested+plain_group.Proof.Base.{entry-key-at, entry-key-claims}
 
 pub entry-key-entry-node-requires : (t : ℕ) → entry-key-lts.Need-entry-node-requires (entry-key-claims t) (entry-key-at t) entry-key.Post
 entry-key-entry-node-requires t c κs = let q = c .before .before .before .before .before .pre .0 in (omega (arith, q), (c .before .before .before .before .before .pre .1 .0, hushed-lead _ _ _ _ _ (c .before .before .before .before .before .pre .1 .1)))

@@ -5,8 +5,8 @@ use Rattle.flow.proofs.Hushes.{quiet-is}
 use borrow.Author.Needs.{needs}
 use Prim.Native.Nat.{ℕ}
 use Rattle.flow.proofs.group.Reads as group
-use Rattle.flow.proofs.+content+entry_key+entry_node+flow_entries+flow_entry+group+line+lined_entries+lined_entry+lined_group+plain_group.Lts-group as group-lts
-use Rattle.flow.proofs.+content+entry_key+entry_node+flow_entries+flow_entry+group+line+lined_entries+lined_entry+lined_group+plain_group.Proof.Base.{group-at, group-claims}
+use Rattle.flow.proofs.+content+entry_key+entry_node+flow_entries+flow_entry+group+line+lined_entries+lined_entry+lined_group+nested+plain_group.Lts-group as group-lts
+use Rattle.flow.proofs.+content+entry_key+entry_node+flow_entries+flow_entry+group+line+lined_entries+lined_entry+lined_group+nested+plain_group.Proof.Base.{group-at, group-claims}
 
 pub group-step-of-requires : (t : ℕ) → group-lts.Need-step-of-requires (group-claims t) (group-at t) group.Post
 group-step-of-requires t c κs = search needs

@@ -6,8 +6,8 @@ use Rattle.flow.proofs.Hushes.{hushed-node}
 use borrow.Author.Needs.{needs}
 use Prim.Native.Nat.{ℕ}
 use Rattle.flow.proofs.entry_node.Reads as entry-node
-use Rattle.flow.proofs.+content+entry_key+entry_node+flow_entries+flow_entry+group+line+lined_entries+lined_entry+lined_group+plain_group.Lts-entry_node as entry-node-lts
-use Rattle.flow.proofs.+content+entry_key+entry_node+flow_entries+flow_entry+group+line+lined_entries+lined_entry+lined_group+plain_group.Proof.Base.{entry-node-at, entry-node-claims}
+use Rattle.flow.proofs.+content+entry_key+entry_node+flow_entries+flow_entry+group+line+lined_entries+lined_entry+lined_group+nested+plain_group.Lts-entry_node as entry-node-lts
+use Rattle.flow.proofs.+content+entry_key+entry_node+flow_entries+flow_entry+group+line+lined_entries+lined_entry+lined_group+nested+plain_group.Proof.Base.{entry-node-at, entry-node-claims}
 
 pub entry-node-spot-at-requires : (t : ℕ) → entry-node-lts.Need-spot-at-requires (entry-node-claims t) (entry-node-at t) entry-node.Post
 entry-node-spot-at-requires t c κs = search needs
