@@ -1,5 +1,5 @@
--- Laws of the head and of its comments.
-use mathlib.Core.Path.{_≡_, refl, sym}
+-- Laws of the head, of its comments, and of where a subtree ends.
+use mathlib.Core.Path.{_≡_, refl, sym, ap, _∙_}
 use Prim.Native.Nat.{ℕ, zero, suc, _+_, _-_, _<_, _≤_}
 use native.Mathlib.Omega.{arith}
 use mathlib.Core.Bool.{Bool, true, false}
@@ -13,12 +13,14 @@ use Rattle.definition.specs.declared.Cursor.{Cursor}
 use Rattle.definition.specs.declared.Record.{Record}
 use Rattle.definition.specs.declared.Record.the-variants as is
 use Rattle.deck.specs.Next.{nextOf}
-use Rattle.deck.specs.Kids.{either}
+use Rattle.deck.specs.Kids.{either, kidsOf}
 use Rattle.node.specs.declared.Run.{Run}
 use Rattle.node.specs.declared.Lead.{Lead}
 use Rattle.node.specs.declared.Front.{Front}
 use Rattle.node.specs.Head.{onto, noLead, addTo, Small, Head, frontOf, headed, headFrom, headAt}
 use Rattle.node.specs.Comments.{isComment, commentFrom}
+use Rattle.node.specs.Total.{treeAt}
+use Rattle.node.specs.Fuel.{nexts, head-at-onward, place-same, place-within, tree-next}
 
 -- ---- runs
 
@@ -99,6 +101,28 @@ module _ (deck : Bytes) where
   unfolding headAt
   front-is h l c q e = rw (q, e)
 
+  -- ---- its own record's place
+
+  abbrev pub ownFrom : ℕ → Cursor → Cursor
+  ownFrom n c = headFrom deck n noLead c .place
+
+  pub own-stop : (n : ℕ) (c : Cursor) (b : Bool) → b ≡ isNode (recordAt deck c) → b ≡ true → c ≡ ownFrom n c
+  unfolding frontOf
+  own-stop n c b e t = ap (λ (f : Front). f .own) (front-stop n noLead c b e t)
+
+  pub own-more : (n : ℕ) (c next : Cursor) (b : Bool) → 0 < n → b ≡ isNode (recordAt deck c) → b ≡ false → next ≡ nextOf deck c → ownFrom (n - 1) next ≡ ownFrom n c
+  own-more n c next b h e f x =
+      place-same deck (n - 1) noLead (addTo (recordAt deck c) c noLead) next
+      ∙ ap (λ (z : Head). z .place) (head-more n noLead (addTo (recordAt deck c) c noLead) c next b h e f x refl)
+
+  pub own-done : (n : ℕ) (c : Cursor) → n ≡ 0 → c ≡ ownFrom n c
+  unfolding frontOf
+  own-done n c e = ap (λ (f : Front). f .own) (front-done n noLead c e)
+
+  pub own-place : (c : Cursor) → ownFrom (length deck) c ≡ headAt deck c .place
+  unfolding headAt
+  own-place c = refl
+
 -- ---- its comments
 
 module _ (deck : Bytes) (c : Cursor) (k : ℕ) (f : k ≡ kindAt deck c) where
@@ -134,3 +158,37 @@ module _ (deck : Bytes) where
   pub comment-done : (n : ℕ) (c : Cursor) → n ≡ 0 → false ≡ commentFrom deck n c
   unfolding commentFrom
   comment-done n c e = rw e
+
+-- ---- where a subtree ends
+
+module _ (deck : Bytes) (c : Cursor) (k : c .at ≤ length deck) (p : Cursor) (e : p ≡ headAt deck c .place) where
+  pub own-within : p .at ≤ length deck
+  own-within = rw e (place-within deck c k)
+
+  kids-are : (n : ℕ) → n ≡ kidsOf (recordAt deck p) → n ≡ kidsOf (headAt deck c .own)
+  kids-are n q = q ∙ ap (λ (x : Cursor). kidsOf (recordAt deck x)) e ∙ ap kidsOf (sym (head-at-onward deck c k .own))
+
+  next-is : (x : Cursor) → x ≡ nextOf deck p → x ≡ headAt deck c .next
+  next-is x q = q ∙ ap (nextOf deck) e ∙ sym (head-at-onward deck c k .next)
+
+  pub child-after : (x : Cursor) (n : ℕ) → x ≡ nextOf deck p → n ≡ kidsOf (recordAt deck p) → 0 < n → c .at < x .at
+  child-after x n f q h =
+      let o = head-at-onward deck c k in
+      let y : n ≡ kidsOf (headAt deck c .own) = kids-are n q in
+      let s = o .kids (λ z. absurd (omega arith)) in
+      rw (next-is x f) (omega (arith, o .ahead, s))
+
+  pub end-onward : (x : Cursor) → x ≡ nextOf deck p → c .at ≤ x .at
+  end-onward x f = let o = head-at-onward deck c k in rw (next-is x f) (omega (arith, o .ahead, o .beyond))
+
+  pub end-tree : (pool : Bytes) (x : Cursor) (n : ℕ) → x ≡ nextOf deck p → n ≡ kidsOf (recordAt deck p) → nexts (λ d. treeAt deck pool d .next) n x ≡ treeAt deck pool c .next
+  end-tree pool x n f q = rw (kids-are n q, next-is x f) (sym (tree-next deck pool c k))
+
+pub nexts-more : (f : Cursor → Cursor) (n : ℕ) (c e : Cursor) → 0 < n → e ≡ f c → nexts f (n - 1) e ≡ nexts f n c
+unfolding nexts
+nexts-more f zero c e h q = absurd (omega arith)
+nexts-more f (suc n) c e h q = let s : suc n - 1 ≡ n = omega arith in rw (s, q)
+
+pub nexts-done : (f : Cursor → Cursor) (n : ℕ) (c : Cursor) → n ≡ 0 → c ≡ nexts f n c
+unfolding nexts
+nexts-done f n c e = rw e

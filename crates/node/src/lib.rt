@@ -2,12 +2,11 @@
 use definition::Cursor;
 use definition::Lines;
 ghost use mathlib.Core.Path.{_≡_};
-ghost use mathlib.Core.Bool.{_&&_};
 ghost use Prim.Native.Nat.{_+_, _<_, _≤_, _^_};
 ghost use lib.ListN.{length};
 ghost use Rattle.definition.specs.Records.{recordAt};
 ghost use Rattle.node.specs.Head.{noLead, onto, withTag, withAnchor, withOrigin, withRemark, withRaw, withLines, moreHeads, moreFoots, moreDirectives, addTo, Small, frontOf, headAt};
-ghost use Rattle.node.specs.Ends.{Ends, leftAfter, Passes, Still};
+ghost use Rattle.node.specs.Ends.{Ends, leftAfter, Still};
 ghost use Rattle.node.specs.Comments.{isComment, commented};
 
 // A tag, an anchor or a raw text that may be absent: the place of its record's body, or 0.
@@ -247,23 +246,7 @@ pub fn has_comments(deck: &[u8], c: Cursor) -> bool
     false
 }
 
-// Where trees that were passed end, unless a comment was met: then where it stands.
-pub struct Passage {
-    pub end: Cursor,
-    pub met: bool,
-}
-
-// Comments are minded, and the record at a cursor is one.
-fn is_met(deck: &[u8], c: Cursor, minding: bool) -> bool
-    ensures { λ r. ⌜ r ≡ (minding && isComment (recordAt (now (deck .entry)) c)) ⌝ }
-{
-    if minding {
-        return is_comment(deck, c);
-    }
-    false
-}
-
-// How many trees are left to pass after the record at a cursor: a node's own record ends a tree, and its children are so many more.
+// How many trees are left to look over after the record at a cursor: a node's own record ends a tree, and its children are so many more.
 fn left_after(deck: &[u8], c: Cursor, left: usize) -> usize
     requires { ⌜ (c .at ≤ length (now deck)) × (0 < left) × (left < 2 ^ 62) ⌝ }
     ensures { λ r. ⌜ (r ≡ leftAfter (recordAt (now (deck .entry)) c) left) × (r < left + 131072) ⌝ }
@@ -274,43 +257,51 @@ fn left_after(deck: &[u8], c: Cursor, left: usize) -> usize
     left
 }
 
-// Passes n trees that stand one after another, record by record. Where comments are minded, the first one ends it.
-fn pass(deck: &[u8], c: Cursor, n: usize, minding: bool) -> Passage
-    requires { ⌜ (c .at ≤ length (now deck)) × (length (now deck) ≤ 65536) × (n < 2 ^ 32) ⌝ }
-    ensures { λ r. ⌜ Passes (now (deck .entry)) n c minding r ⌝ }
-{
-    let mut here = c;
-    let mut left = n;
-    while left > 0 {
-        if is_met(deck, here, minding) {
-            return Passage {
-                end: here,
-                met: true,
-            };
-        }
-        left = left_after(deck, here, left);
-        here = deck::next(deck, here);
-    }
-    Passage {
-        end: here,
-        met: false,
-    }
-}
-
-// No node of n trees has comments, at any depth.
+// No node of n trees has comments, at any depth: these are looked over record by record, up to the first comment.
 pub fn is_still(deck: &[u8], c: Cursor, n: usize) -> bool
     requires { ⌜ (c .at ≤ length (now deck)) × (length (now deck) ≤ 65536) × (n < 2 ^ 32) ⌝ }
     ensures { λ r. ⌜ Still (now (deck .entry)) n c r ⌝ }
 {
-    let p = pass(deck, c, n, true);
-    !p.met
+    let mut here = c;
+    let mut left = n;
+    while left > 0 {
+        if is_comment(deck, here) {
+            return false;
+        }
+        left = left_after(deck, here, left);
+        here = deck::next(deck, here);
+    }
+    true
 }
 
-// Where the subtree at a cursor ends.
+// Where the own record of the node at a cursor stands.
+fn own_at(deck: &[u8], c: Cursor) -> Cursor
+    requires { ⌜ c .at ≤ length (now deck) ⌝ }
+    ensures { λ r. ⌜ r ≡ headAt (now (deck .entry)) c .place ⌝ }
+{
+    let mut here = c;
+    let mut left = deck.len();
+    while left > 0 {
+        if deck::is_node(deck, here) {
+            return here;
+        }
+        here = deck::next(deck, here);
+        left -= 1;
+    }
+    here
+}
+
+// Where the subtree at a cursor ends. A node's children stand after it in the deck, so it recurses on them.
 pub fn subtree_end(deck: &[u8], c: Cursor) -> Cursor
-    requires { ⌜ (c .at ≤ length (now deck)) × (length (now deck) ≤ 65536) ⌝ }
+    requires { ⌜ c .at ≤ length (now deck) ⌝ }
     ensures { λ r. ⌜ Ends (now (deck .entry)) c r ⌝ }
 {
-    let p = pass(deck, c, 1, false);
-    p.end
+    let own = own_at(deck, c);
+    let mut here = deck::next(deck, own);
+    let mut left = deck::kids(deck, own);
+    while left > 0 {
+        here = subtree_end(deck, here);
+        left -= 1;
+    }
+    here
 }

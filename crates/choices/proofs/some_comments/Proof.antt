@@ -26,7 +26,7 @@ returns-2 : tie.Need-returns-2 Inv-loop μ-loop
 returns-2 c = found _ _ _ _ _ (c .before .before .before .loop .inv .2) (c .before .before .before .loop .inv .1) (c .before .has-comments .ensures) (c .if2 .taken) (c .before .before .before .loop .inv .0)
 
 subtree-end-requires : tie.Need-subtree-end-requires Inv-loop μ-loop
-subtree-end-requires c κs = (c .before .before .before .loop .inv .1, (c .before .before .before .before .before .before .pre) .1)
+subtree-end-requires c κs = c .before .before .before .loop .inv .1
 
 sub-left : tie.Need-sub-left Inv-loop μ-loop
 sub-left c = search needs
