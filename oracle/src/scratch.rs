@@ -13,7 +13,7 @@ const NODES: [usize; 4] = [4, 8, 12, 24];
 const LONGEST: usize = 16;
 /// How many theorems stand in one module.
 const MODULE: usize = 16;
-/// The crates of the scratch repository: one for each core.
+/// The crates of the scratch repository: two, which are checked side by side.
 const CRATES: [&str; 2] = ["cases_a", "cases_b"];
 
 /// For each case a tree through all calls, a damaged deck through two, and, since they cost little, three small trees with much of a few

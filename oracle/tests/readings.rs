@@ -1,4 +1,4 @@
-//! The readings of document 01 that the design settles, each as a small deck with its number and place.
+//! The readings of document 01 that docs/DECISIONS.md settles, each as a small deck with its number and place.
 
 mod common;
 

@@ -8,7 +8,7 @@ use lib.ListN.{length}
 use lib.Dec.{leb}
 use Rattle.definition.specs.Base.{Bytes, if_then_else_}
 use Rattle.definition.specs.Records.{kindAt, recordAt, past}
-use Rattle.definition.specs.Tree.{Kept, Brought, Node, Nodes, Pairs}
+use Rattle.definition.specs.Tree.{Kept, Brought, Node}
 use Rattle.definition.specs.Deck.{Read, fault, got, bind, Whole, keep, bring, isNode, ownOrOn, readWhole, nodeOf, readItems, readPairs, readNode, readTrees, readDeck, noneKept, noneBrought, deepest}
 use Rattle.definition.specs.declared.Cursor.{Cursor}
 use Rattle.definition.specs.declared.Record.{Record}
@@ -147,17 +147,6 @@ module _ (deck pool : Bytes) where
   pub agree-node : (d : ℕ) (c j : Cursor) (t : Node) → readNode deck pool d c ≡ got t j → treeAt deck pool c ≡ record { value = t; next = j }
   unfolding treeAt
   agree-node d c j t e = gives-at (readNode deck pool d c) t j (node-gives d (length deck - c .at) c (omega arith)) e .same
-
-  tree-gives : (d : ℕ) (c : Cursor) → 0 ≤ c .at → Gives (Agrees (treeAt deck pool c) c) (readNode deck pool d c)
-  unfolding treeAt
-  tree-gives d c k = node-gives d (length deck - c .at) c (omega arith)
-
-  -- AGREE, at siblings
-  pub agree-items : (d n : ℕ) (c j : Cursor) (xs : Nodes) → readItems (readNode deck pool d) n c ≡ got xs j → itemsFrom (treeAt deck pool) n c ≡ record { value = xs; next = j }
-  agree-items d n c j xs e = gives-at (readItems (readNode deck pool d) n c) xs j (items-give (readNode deck pool d) (treeAt deck pool) 0 (tree-gives d) n c (omega arith)) e .same
-
-  pub agree-pairs : (d n : ℕ) (c j : Cursor) (ps : Pairs) → readPairs (readNode deck pool d) n c ≡ got ps j → pairsFrom (treeAt deck pool) n c ≡ record { value = ps; next = j }
-  agree-pairs d n c j ps e = gives-at (readPairs (readNode deck pool d) n c) ps j (pairs-give (readNode deck pool d) (treeAt deck pool) 0 (tree-gives d) n c (omega arith)) e .same
 
   -- ---- the whole deck
 

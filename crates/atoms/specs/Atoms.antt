@@ -11,17 +11,16 @@ use Rattle.definition.specs.Block.{blockHeader, blockBody}
 use Rattle.definition.specs.Settings.{isTilde}
 use Rattle.definition.specs.Scalar.{markerOf}
 use Rattle.definition.specs.Records.{trailerAt}
-use Rattle.definition.specs.Tree.{Inline, Kept}
-use Rattle.definition.specs.Deck.{marked, layoutOf, inlineOf}
+use Rattle.definition.specs.Tree.{Inline}
+use Rattle.definition.specs.Deck.{marked, inlineOf}
 use Rattle.definition.specs.Pen.{text, Script, put, comment, leaf, _>>_}
-use Rattle.definition.specs.Walk.{isBlockStyle, fresh, nullText}
+use Rattle.definition.specs.Walk.{isBlockStyle}
 use Rattle.definition.specs.declared.Lines.{Lines}
 use Rattle.definition.specs.declared.Settings.{Settings}
 use Rattle.definition.specs.declared.Style.{Style}
 use Rattle.definition.specs.declared.Style.the-variants.{Plain, Single, Double, Literal, Folded}
-use Rattle.node.specs.declared.Lead.{Lead}
 use Rattle.node.specs.declared.Remark.{Remark}
-use Rattle.node.specs.Total.{keptOf, remarkOf}
+use Rattle.node.specs.Total.{remarkOf}
 
 -- a mark or a depth that is not 0
 unfoldable pub on : ℕ → Bool
@@ -39,10 +38,6 @@ numberOf Folded = 4
 unfoldable pub nullIn : Settings → Lines → Bytes
 nullIn s l = if marked (l .marks) 8 && isTilde (s .«null_style») then '~' ∷ [] else 110 ∷ 117 ∷ 108 ∷ 108 ∷ []
 
-pub null-in : (s : Settings) (deck pool : Bytes) (l : Lead) → nullText s (keptOf deck pool l) ≡ nullIn s (l .lines)
-unfolding nullText nullIn keptOf layoutOf
-null-in s deck pool l = refl
-
 -- a block scalar with an inline comment on its header
 unfoldable pub commented : ℕ → ℕ → ℕ → Option Inline → Bytes → Script
 commented marker i p m t = put text (blockHeader marker t) >> comment p m >> put text (blockBody i t)
@@ -50,10 +45,6 @@ commented marker i p m t = put text (blockHeader marker t) >> comment p m >> put
 -- a scalar that is not replayed, from its inline comment alone
 unfoldable pub freshIn : Bool → Bool → ℕ → ℕ → Option Inline → Bytes → Style → Script
 freshIn flow key i p m t y = if isSome m && isBlockStyle y && not flow then commented (markerOf y) i p m t else leaf p flow key t y i
-
-pub fresh-in : (flow key : Bool) (i p : ℕ) (a : Kept) (t : Bytes) (y : Style) → fresh flow key i p a t y ≡ freshIn flow key i p (a .inline) t y
-unfolding fresh freshIn commented
-fresh-in flow key i p a t y = refl
 
 -- an inline comment is there
 pub remark-some : (deck pool : Bytes) (m : Remark) → isSome (remarkOf deck pool m) ≡ on (m .at)

@@ -8,7 +8,7 @@ use spot::Spot;
 use terms::Terms;
 ghost use mathlib.Core.Path.{_≡_};
 ghost use Prim.Native.Nat.{_<_, _^_};
-ghost use mathlib.Core.Bool.{true, false};
+ghost use mathlib.Core.Bool.{true};
 ghost use lib.ListN.{length};
 ghost use Rattle.definition.specs.Walk.{value, dash, keyBelow, members};
 ghost use Rattle.terms.specs.Terms.{settingsIn};

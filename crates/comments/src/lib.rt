@@ -203,7 +203,7 @@ pub fn put_repeated(
     put_run(w, deck, pool, out, e, indent, run)
 }
 
-// `emit_head`: the same of head comments alone. With two callers `put_run` is not made a part of either, and the tests are made where these are called.
+// `emit_head`: the same of head comments alone.
 pub fn put_heads(
     w: Writer,
     deck: &[u8],

@@ -4,6 +4,7 @@ use Prim.Native.Nat.{ℕ, zero, suc, _+_, _-_, _*_, _/_, _%_, max}
 use mathlib.Core.Bool.{Bool, true, false, not, _&&_, _||_}
 use mathlib.Core.List.{[], _∷_, _++_}
 use mathlib.Core.Option.{Option, none, some}
+use lib.ListN.{length, take}
 use lib.Dec.{eqb, leb, ltb}
 use Rattle.definition.specs.Base.{Bytes, if_then_else_, isNil, within, any}
 use Rattle.definition.specs.Ascii.{TAB, LF, CR, SP, QUOTE, APOSTROPHE, BACKSLASH, '#', '+', '-', '|'}
@@ -157,10 +158,10 @@ unfoldable pub stripped : Bytes → Bytes
 stripped [] = []
 stripped (b ∷ s) = let r = stripped s in if isNil r && eqb b LF then [] else b ∷ r
 
--- the line breaks at the end go, or all but the first where a line stands before them, or stay
+-- the line breaks at the end go, or all but the first where a line stands before them, or stay; at the end of input there may be none
 unfoldable pub chomped : Chomp → Bytes → Bytes
 chomped strip s = stripped s
-chomped clip s = let r = stripped s in if isNil r then [] else r ++ LF ∷ []
+chomped clip s = let r = stripped s in if isNil r then [] else take (suc (length r)) s
 chomped keep s = s
 
 -- 8.1.1.1: the indent is that of the first line that is not empty, and no line before it has more spaces; where all lines are empty it is

@@ -1,14 +1,11 @@
 -- What stands at the front of an output.
 use mathlib.Core.Path.{_≡_, refl, sym, ap, subst, _∙_}
-use Prim.Native.Nat.{ℕ, zero, suc, _+_, _≤_, _<_, _/_}
+use Prim.Native.Nat.{ℕ, suc, _+_, _≤_, _<_}
 use native.Mathlib.Omega.{arith}
-use mathlib.Core.Bool.{Bool, true, false}
 use mathlib.Core.List.{[], _∷_, _++_, append-assoc, append-nil}
-use lib.Dec.{ltb}
 use lib.ListN.{length, take, getD, set, length-append, replicate, length-replicate}
 use lib.Seq.{take-all, take-suc, take-suc-set}
-use Rattle.definition.specs.Base.{Bytes, if_then_else_}
-use Rattle.definition.specs.Program.{decimal}
+use Rattle.definition.specs.Base.{Bytes}
 
 -- an output as the emit program lends it
 unfoldable pub blank : Bytes
@@ -59,14 +56,3 @@ adds-all text i at old end out a h = subst (λ (t : Bytes). Adds t at old end ou
 
 pub adds-shows : (t : Bytes) {old new : Bytes} {end : ℕ} → Adds t 0 old end new → end ≤ length new → Shows t end new
 adds-shows t a l = record { fits = l; bytes = a .bytes }
-
--- ---- digits
-
-digits-length : (n c : ℕ) (b : Bool) (more : Bytes) → length more ≤ n → length ((if b then [] else more) ++ c ∷ []) ≤ suc n
-digits-length n c true more h = omega arith
-digits-length n c false more h = let l : length (more ++ c ∷ []) ≡ length more + 1 = length-append more (c ∷ []) in omega arith
-
-pub decimal-length : (n m : ℕ) → length (decimal n m) ≤ n
-unfolding decimal
-decimal-length zero m = omega arith
-decimal-length (suc n) m = digits-length n _ (ltb m 10) (decimal n (m / 10)) (decimal-length n (m / 10))

@@ -36,7 +36,7 @@ use Rattle.joints.specs.declared.Manner.the-variants.{Entry, Key}
 use Rattle.joints.specs.Line.{rankOf, dressed, keyBy, ending, lineOf, line-key, line-entry}
 use Rattle.joints.specs.Told.{LastOf}
 use Rattle.joints.specs.Entries.{nodeAt, nextAt, lastOf, entryEnd, runEnd, someComments, itemOf, entryKey, entryOf, flowRun, linedBefore, linedAfter, linedOf, isNone, linedRun, opening, closing, linedIn, plainIn, groupOf, group-items, group-pairs, items-end, pairs-end}
-use Rattle.flow.specs.Ready.{Ready, Emits, after, further, keyed, inside, at-cursor}
+use Rattle.flow.specs.Ready.{Ready, Emits, after, further, keyed, at-cursor}
 
 -- ---- the marks of a pen: in flow, in a key
 

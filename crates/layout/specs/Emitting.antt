@@ -1,7 +1,6 @@
 -- Emission in steps: what is drawn before and after it, and lines in no flow collection and no key.
 use mathlib.Core.Path.{_≡_, refl, ap, _∙_}
-use Prim.Native.Nat.{ℕ, _≤_}
-use native.Mathlib.Omega.{arith}
+use Prim.Native.Nat.{ℕ}
 use mathlib.Core.Bool.{Bool, true, false}
 use Rattle.definition.specs.Base.{if_then_else_}
 use Rattle.definition.specs.Pen.{Script, _>>_}
@@ -34,10 +33,6 @@ module _ {s : Settings} {st : ℕ} {z r : Cursor} {l : ℕ} where
 
   pub emits-same : {P Q : Pen} (a b : Script) → a ≡ b → Emits s a P Q st z r l → Emits s b P Q st z r l
   emits-same a b e d = rw e at d
-
-  -- from an earlier place
-  pub earlier : {P Q : Pen} {a : Script} (n : ℕ) → n ≤ st → Emits s a P Q st z r l → Emits s a P Q n z r l
-  earlier n h e = record { drawn = e .drawn; next = e .next; onward = (let o = e .onward in omega (arith, o, h)); within = e .within }
 
 -- a node on its line where no flow collection and no key is open
 pub calm-line : (s : Settings) (m : Manner) (i f k : ℕ) (n : Node) → f ≡ 0 → k ≡ 0 → lineOf s (on f) (on k) m i n ≡ lineOf s false false m i n

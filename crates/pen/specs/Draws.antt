@@ -33,10 +33,6 @@ unfolding ink puts nothing
 stays = record { drawn = λ s. refl }
 
 -- where a test decides
-pub draws-if : {P Q : Pen} (t : Bool) (a b : Script) → (t ≡ true → Draws a P Q) → (t ≡ false → Draws b P Q) → Draws (if t then a else b) P Q
-draws-if true a b f g = f refl
-draws-if false a b f g = g refl
-
 pub draws-yes : {P Q : Pen} (t : Bool) (a b : Script) → t ≡ true → Draws a P Q → Draws (if t then a else b) P Q
 draws-yes t a b e d = rw e d
 

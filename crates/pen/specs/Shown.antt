@@ -32,12 +32,6 @@ overlay [] bs = []
 overlay (o ∷ os) [] = o ∷ os
 overlay (o ∷ os) (b ∷ bs) = b ∷ overlay os bs
 
-pub length-overlay : (orig bs : Bytes) → length (overlay orig bs) ≡ length orig
-unfolding overlay
-length-overlay [] bs = refl
-length-overlay (o ∷ os) [] = refl
-length-overlay (o ∷ os) (b ∷ bs) = ap suc (length-overlay os bs)
-
 overlay-nil : (orig : Bytes) → overlay orig [] ≡ orig
 unfolding overlay
 overlay-nil [] = refl

@@ -60,7 +60,7 @@ fn up_to(n: usize, most: usize) -> usize
     most
 }
 
-// The column after a byte that was at `column` before it.
+// The column after a byte, where it was `column` before it.
 fn next_column(column: usize, most: usize, b: u8) -> usize
     requires { ⌜ most < 2 ^ 28 ⌝ }
     ensures { λ r. ⌜ (r ≡ nextColumn most column b) × (r < 2 ^ 28) ⌝ }

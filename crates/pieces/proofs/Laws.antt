@@ -2,17 +2,17 @@
 use Prim.Native.Nat.{ℕ, _+_, _≤_, _<_}
 use native.Mathlib.Omega.{arith}
 use mathlib.Core.Path.{_≡_, refl, sym, ap, _∙_}
-use mathlib.Core.Bool.{Bool, true, false, true≢false, false≢true, not}
+use mathlib.Core.Bool.{Bool, true, false, true≢false, false≢true, not, _&&_, _||_}
 use mathlib.Core.List.{[], _∷_, _++_}
 use lib.ListN.{length, getD, drop}
 use lib.Seq.{drop-cons, getD-drop}
 use lib.Dec.{ltb, leb, eqb}
-use borrow.Author.Tests.{eqb-true, eq-eqb, ne-eqb, ltb-true, lt-ltb, le-ltb, le-leb, not-true}
+use borrow.Author.Tests.{eqb-true, eq-eqb, ne-eqb, ltb-true, ltb-false, lt-ltb, le-ltb, le-leb, not-true}
 use Rattle.definition.specs.Base.{Bytes, if_then_else_, within}
 use Rattle.definition.specs.Char.{nonPrintable}
 use Rattle.definition.specs.Quote.{digit, hex2, hex4, escaped}
-use Rattle.laws.specs.Tests.{below-it, by-test}
-use Rattle.laws.specs.Numbers.{not-c1, not-non, non-is}
+use Rattle.laws.specs.Tests.{below-it, above-it, is-within, by-test}
+use Rattle.laws.specs.Numbers.{high-print, wide-print, not-c1, not-non, non-is}
 use Rattle.laws.specs.Pieces.{isC1, isNon, doublePiece, doubleMore, singlePiece, quoteBy}
 use Rattle.laws.specs.Computed.{all, apply, equal, equal-is}
 use Rattle.pieces.specs.Piece.{letterOf, Written, Stands, Own}
@@ -33,7 +33,7 @@ digits d h = eqb-true _ _ (all (λ k. eqb (getD table k 0) (digit k)) 16 refl d 
 -- how the program spells a character below 80
 abbrev asciiBy : ℕ → Bytes
 asciiBy a =
-    if eqb (letterOf a) 0 then (if ltb a 0x20 then 92 ∷ 120 ∷ hex2 a else (if eqb a 0x7f then 92 ∷ 120 ∷ hex2 a else a ∷ []))
+    if eqb (letterOf a) 0 then (if nonPrintable a then 92 ∷ 120 ∷ hex2 a else a ∷ [])
     else 92 ∷ letterOf a ∷ []
 
 ascii-by : (a : ℕ) → a < 0x80 → asciiBy a ≡ escaped a (a ∷ [])
@@ -43,14 +43,11 @@ ascii-by a h = equal-is _ _ (all (λ k. equal (asciiBy k) (escaped k (k ∷ []))
 pub ascii-pair : (a l : ℕ) → a < 0x80 → l ≡ letterOf a → (l ≡ 0 → ⊥) → Written (escaped a (a ∷ [])) 0 (Pair 92 l)
 ascii-pair a l h e n = record { spelled = rw (← ascii-by a h, ← e, ne-eqb l 0 n); speaks = refl; good = tt }
 
-pub ascii-low : (a l : ℕ) → a < 0x80 → l ≡ letterOf a → l ≡ 0 → a < 0x20 → Written (escaped a (a ∷ [])) 0 (Hex a)
-ascii-low a l h e n g = record { spelled = rw (← ascii-by a h, ← e, n, lt-ltb a 0x20 g); speaks = refl; good = tt }
+pub ascii-hex : (a l : ℕ) → a < 0x80 → l ≡ letterOf a → l ≡ 0 → nonPrintable a ≡ true → Written (escaped a (a ∷ [])) 0 (Hex a)
+ascii-hex a l h e n g = record { spelled = rw (← ascii-by a h, ← e, n, g); speaks = refl; good = tt }
 
-pub ascii-del : (a l : ℕ) → a < 0x80 → l ≡ letterOf a → l ≡ 0 → 0x20 ≤ a → a ≡ 0x7f → Written (escaped a (a ∷ [])) 0 (Hex a)
-ascii-del a l h e n g d = record { spelled = rw (← ascii-by a h, ← e, n, le-ltb a 0x20 g, eq-eqb a 0x7f d); speaks = refl; good = tt }
-
-pub ascii-plain : (a l : ℕ) → a < 0x80 → l ≡ letterOf a → l ≡ 0 → 0x20 ≤ a → (a ≡ 0x7f → ⊥) → Written (escaped a (a ∷ [])) 0 (Plain a)
-ascii-plain a l h e n g d = record { spelled = rw (← ascii-by a h, ← e, n, le-ltb a 0x20 g, ne-eqb a 0x7f d); speaks = refl; good = tt }
+pub ascii-plain : (a l : ℕ) → a < 0x80 → l ≡ letterOf a → l ≡ 0 → nonPrintable a ≡ false → Written (escaped a (a ∷ [])) 0 (Plain a)
+ascii-plain a l h e n g = record { spelled = rw (← ascii-by a h, ← e, n, g); speaks = refl; good = tt }
 
 pub c1-other : (a b : ℕ) → (a ≡ 0xc2 → ⊥) → false ≡ isC1 a b
 c1-other a b h = sym (not-c1 a b h)
@@ -59,13 +56,14 @@ pub c1-low : (a b : ℕ) → a ≡ 0xc2 → b < 0x80 → false ≡ isC1 a b
 unfolding isC1
 c1-low a b e h = rw (eq-eqb a 0xc2 e, ne-eqb b 0x85 (λ (q : b ≡ 0x85). omega arith), below-it 0x80 0x9f b h)
 
-pub c1-next-line : (a b : ℕ) → a ≡ 0xc2 → b ≡ 0x85 → false ≡ isC1 a b
+pub c1-print : (a b : ℕ) → a ≡ 0xc2 → 0x80 ≤ b → b < 0x100 → nonPrintable b ≡ isC1 a b
 unfolding isC1
-c1-next-line a b e h = rw (eq-eqb a 0xc2 e, eq-eqb b 0x85 h)
-
-pub c1-high : (a b : ℕ) → a ≡ 0xc2 → 0x80 ≤ b → (b ≡ 0x85 → ⊥) → leb b 0x9f ≡ isC1 a b
-unfolding isC1 within
-c1-high a b e h n = rw (eq-eqb a 0xc2 e, ne-eqb b 0x85 n, le-leb 0x80 b h)
+c1-print a b e h l = rw (eq-eqb a 0xc2 e, high-print b h, below-it 0xfffe 0xffff b (omega arith)) (go (eqb b 0x85) (within 0x80 0x9f b))
+  where
+    go : (x y : Bool) → (if x then false else y || false) ≡ (not x && y)
+    go true y = refl
+    go false true = refl
+    go false false = refl
 
 pub non-first : (a b c : ℕ) → (a ≡ 0xef → ⊥) → false ≡ isNon a b c
 non-first a b c h = sym (not-non a b c h)
@@ -74,13 +72,27 @@ pub non-second : (a b c : ℕ) → a ≡ 0xef → (b ≡ 0xbf → ⊥) → false
 unfolding isNon
 non-second a b c e h = rw (eq-eqb a 0xef e, ne-eqb b 0xbf h)
 
-pub non-low : (a b c : ℕ) → a ≡ 0xef → b ≡ 0xbf → c < 0xbe → false ≡ isNon a b c
-unfolding isNon
-non-low a b c e g h = rw (eq-eqb a 0xef e, eq-eqb b 0xbf g, below-it 0xbe 0xbf c h)
+-- FF40 and a number are FFFE or FFFF where the number is BE or BF
+non-within : (c : ℕ) → within 0xfffe 0xffff (0xff40 + c) ≡ within 0xbe 0xbf c
+non-within c = go (ltb c 0xbe) (ltb 0xbf c) refl refl
+  where
+    low : c < 0xbe → within 0xfffe 0xffff (0xff40 + c) ≡ within 0xbe 0xbf c
+    low l = below-it 0xfffe 0xffff (0xff40 + c) (omega arith) ∙ sym (below-it 0xbe 0xbf c l)
 
-pub non-high : (a b c : ℕ) → a ≡ 0xef → b ≡ 0xbf → 0xbe ≤ c → leb c 0xbf ≡ isNon a b c
-unfolding isNon within
-non-high a b c e g h = rw (eq-eqb a 0xef e, eq-eqb b 0xbf g, le-leb 0xbe c h)
+    high : 0xbf < c → within 0xfffe 0xffff (0xff40 + c) ≡ within 0xbe 0xbf c
+    high l = above-it 0xfffe 0xffff (0xff40 + c) (omega arith) ∙ sym (above-it 0xbe 0xbf c l)
+
+    mid : 0xbe ≤ c → c ≤ 0xbf → within 0xfffe 0xffff (0xff40 + c) ≡ within 0xbe 0xbf c
+    mid l h = is-within 0xfffe 0xffff (0xff40 + c) (omega arith) (omega arith) ∙ sym (is-within 0xbe 0xbf c l h)
+
+    go : (x y : Bool) → ltb c 0xbe ≡ x → ltb 0xbf c ≡ y → within 0xfffe 0xffff (0xff40 + c) ≡ within 0xbe 0xbf c
+    go true y p q = low (ltb-true c 0xbe p)
+    go false true p q = high (ltb-true 0xbf c q)
+    go false false p q = mid (ltb-false c 0xbe p) (ltb-false 0xbf c q)
+
+pub non-print : (a b c : ℕ) → a ≡ 0xef → b ≡ 0xbf → nonPrintable (0xff40 + c) ≡ isNon a b c
+unfolding isNon
+non-print a b c e g = rw (eq-eqb a 0xef e, eq-eqb b 0xbf g) (wide-print (0xff40 + c) (omega arith) ∙ non-within c)
 
 pub double-ascii : (a b c : ℕ) (p : Piece) → a < 0x80 → Written (escaped a (a ∷ [])) 0 p → Written (doublePiece a b c) (doubleMore a b c) p
 unfolding doublePiece doubleMore

@@ -11,6 +11,7 @@ ghost use Rattle.definition.specs.Fold.{size};
 ghost use Rattle.definition.specs.Scalar.{quoteOf};
 ghost use Rattle.laws.specs.Pieces.{isC1, isNon, doublePiece, doubleMore, singlePiece, quoteBy};
 ghost use Rattle.pieces.specs.Piece.{spell, beside, letterOf, sound, Written, Stands, Own};
+use chars::is_non_printable;
 use pen::Writer;
 
 // A byte as it is; two bytes; `\x` of a character below 80; `\x` of C2 and a byte; `\u` of EF BF and a byte.
@@ -54,16 +55,13 @@ fn ascii_piece(a: u8) -> Piece
     if l != 0 {
         return Piece::Pair(b'\\', l);
     }
-    if a < 0x20 {
-        return Piece::Hex(a);
-    }
-    if a == 0x7f {
+    if is_non_printable(a as u32) {
         return Piece::Hex(a);
     }
     Piece::Plain(a)
 }
 
-// U+0080 to U+009F but U+0085.
+// C2 and a byte: a character from U+0080 on that is not printable. Its number is the second byte.
 pub fn is_c1(a: u8, b: u8) -> bool
     ensures { λ r. ⌜ r ≡ isC1 a b ⌝ }
 {
@@ -73,13 +71,10 @@ pub fn is_c1(a: u8, b: u8) -> bool
     if b < 0x80 {
         return false;
     }
-    if b == 0x85 {
-        return false;
-    }
-    b <= 0x9f
+    is_non_printable(b as u32)
 }
 
-// U+FFFE and U+FFFF.
+// EF BF and a byte: a character that is not printable. Its number is FF40 and the third byte.
 pub fn is_non(a: u8, b: u8, c: u8) -> bool
     ensures { λ r. ⌜ r ≡ isNon a b c ⌝ }
 {
@@ -89,10 +84,8 @@ pub fn is_non(a: u8, b: u8, c: u8) -> bool
     if b != 0xbf {
         return false;
     }
-    if c < 0xbe {
-        return false;
-    }
-    c <= 0xbf
+    let last = c as u32;
+    is_non_printable(0xff40 + last)
 }
 
 fn double_piece(a: u8, b: u8, c: u8) -> Piece

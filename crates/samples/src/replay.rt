@@ -18,7 +18,7 @@ pub struct Tally {
     pub other: usize,
 }
 
-// Room for a list, for a deck or pool, and for an output: each one byte over its limit.
+// Room for a list; for a deck or pool, and for an output, each one byte over its limit.
 pub fn list_room() -> [u8; 262144]
     ensures { λ r. ⌜ 262144 ≡ length r ⌝ }
 {

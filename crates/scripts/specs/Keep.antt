@@ -71,9 +71,6 @@ module _ (f : Pen → ℕ) (h : Steady f) where
   steady : (n : ℕ) → Stable (λ p. f p ≡ n)
   steady n = record { one = λ p b e. h .one p b ∙ e; note = λ p m e. h .note p m ∙ e; raw = λ p e. h .raw p ∙ e }
 
-  puts-steady : (t : Bytes) (p : Pen) → f (puts t p) ≡ f p
-  puts-steady t p = puts-stable (λ q. f q ≡ f p) (steady (f p)) t p refl
-
   ink-steady : (s : Settings) (a : Script) (p : Pen) → f (ink s a p) ≡ f p
   ink-steady s a p = ink-stable (λ q. f q ≡ f p) (steady (f p)) s a p refl
 
@@ -85,34 +82,15 @@ key-steady : Steady (λ p. p .w .key)
 unfolding put1 noting rawing withInline withRaw
 key-steady = record { one = λ p b. refl; note = λ p m. refl; raw = λ p. refl }
 
-tracks-steady : Steady (λ p. p .w .tracks)
-unfolding put1 noting rawing withInline withRaw
-tracks-steady = record { one = λ p b. refl; note = λ p m. refl; raw = λ p. refl }
-
 length-steady : Steady (λ p. length (p .out))
 unfolding put1 noting rawing
 length-steady = record { one = λ p b. length-set (p .out) (p .w .len) b; note = λ p m. refl; raw = λ p. refl }
-
-pub puts-flow : (t : Bytes) (p : Pen) → puts t p .w .flow ≡ p .w .flow
-puts-flow t p = puts-steady _ flow-steady t p
-
-pub puts-key : (t : Bytes) (p : Pen) → puts t p .w .key ≡ p .w .key
-puts-key t p = puts-steady _ key-steady t p
-
-pub puts-tracks : (t : Bytes) (p : Pen) → puts t p .w .tracks ≡ p .w .tracks
-puts-tracks t p = puts-steady _ tracks-steady t p
-
-pub puts-length : (t : Bytes) (p : Pen) → length (puts t p .out) ≡ length (p .out)
-puts-length t p = puts-steady _ length-steady t p
 
 pub ink-flow : (s : Settings) (a : Script) (p : Pen) → ink s a p .w .flow ≡ p .w .flow
 ink-flow s a p = ink-steady _ flow-steady s a p
 
 pub ink-key : (s : Settings) (a : Script) (p : Pen) → ink s a p .w .key ≡ p .w .key
 ink-key s a p = ink-steady _ key-steady s a p
-
-pub ink-tracks : (s : Settings) (a : Script) (p : Pen) → ink s a p .w .tracks ≡ p .w .tracks
-ink-tracks s a p = ink-steady _ tracks-steady s a p
 
 pub ink-length : (s : Settings) (a : Script) (p : Pen) → length (ink s a p .out) ≡ length (p .out)
 ink-length s a p = ink-steady _ length-steady s a p
@@ -179,19 +157,13 @@ key-unseen : (n : ℕ) → Unseen (withKey n)
 unfolding withKey put1 noting rawing withInline withRaw columnAfter
 key-unseen n = record { one = λ p b. refl; note = λ p m. refl; raw = λ p. refl; last = λ p. refl; inline = λ p. refl; column = λ p. refl }
 
-pub puts-with-flow : (t : Bytes) (n : ℕ) (p : Pen) → puts t (withFlow n p) ≡ withFlow n (puts t p)
-puts-with-flow t n p = puts-unseen (withFlow n) (flow-unseen n) t p
-
-pub puts-with-key : (t : Bytes) (n : ℕ) (p : Pen) → puts t (withKey n p) ≡ withKey n (puts t p)
-puts-with-key t n p = puts-unseen (withKey n) (key-unseen n) t p
-
 pub ink-with-flow : (s : Settings) (a : Script) (n : ℕ) (p : Pen) → ink s a (withFlow n p) ≡ withFlow n (ink s a p)
 ink-with-flow s a n p = ink-unseen (withFlow n) (flow-unseen n) s a p
 
 pub ink-with-key : (s : Settings) (a : Script) (n : ℕ) (p : Pen) → ink s a (withKey n p) ≡ withKey n (ink s a p)
 ink-with-key s a n p = ink-unseen (withKey n) (key-unseen n) s a p
 
--- set to what it was; set twice; one beside the other
+-- set to what it was; set twice
 pub with-flow-back : (p : Pen) → withFlow (p .w .flow) p ≡ p
 unfolding withFlow
 with-flow-back p = refl
@@ -207,10 +179,6 @@ with-flow-twice m n p = refl
 pub with-key-twice : (m n : ℕ) (p : Pen) → withKey m (withKey n p) ≡ withKey m p
 unfolding withKey
 with-key-twice m n p = refl
-
-pub with-flow-key : (m n : ℕ) (p : Pen) → withFlow m (withKey n p) ≡ withKey n (withFlow m p)
-unfolding withFlow withKey
-with-flow-key m n p = refl
 
 -- a script between setting a mark and setting it back
 pub ink-in-flow : (s : Settings) (a : Script) (n : ℕ) (p : Pen) → withFlow (p .w .flow) (ink s a (withFlow n p)) ≡ ink s a p
@@ -230,9 +198,6 @@ flow-of s a p q e = ap (λ (r : Pen). r .w .flow) e ∙ ink-flow s a p
 
 pub key-of : (s : Settings) (a : Script) (p q : Pen) → q ≡ ink s a p → q .w .key ≡ p .w .key
 key-of s a p q e = ap (λ (r : Pen). r .w .key) e ∙ ink-key s a p
-
-pub tracks-of : (s : Settings) (a : Script) (p q : Pen) → q ≡ ink s a p → q .w .tracks ≡ p .w .tracks
-tracks-of s a p q e = ap (λ (r : Pen). r .w .tracks) e ∙ ink-tracks s a p
 
 pub length-of : (s : Settings) (a : Script) (p q : Pen) → q ≡ ink s a p → length (q .out) ≡ length (p .out)
 length-of s a p q e = ap (λ (r : Pen). length (r .out)) e ∙ ink-length s a p

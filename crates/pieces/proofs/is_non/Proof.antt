@@ -1,5 +1,7 @@
 -- `pieces::is_non` meets its contract.
-use Rattle.pieces.proofs.Laws.{non-first, non-second, non-low, non-high}
+use mathlib.Core.Path.{_∙_}
+use native.Mathlib.Omega.{arith}
+use Rattle.pieces.proofs.Laws.{non-first, non-second, non-print}
 use Rattle.pieces.proofs.is_non.Statement.{statement}
 use Rattle.pieces.proofs.is_non.Tie as tie
 
@@ -9,11 +11,14 @@ returns c = non-first _ _ _ (c .if1 .taken)
 returns-2 : tie.Need-returns-2
 returns-2 c = non-second _ _ _ (c .before .if1 .left) (c .if2 .taken)
 
-returns-3 : tie.Need-returns-3
-returns-3 c = non-low _ _ _ (c .before .before .if1 .left) (c .before .if2 .left) (c .if3 .taken)
+add-is-non-printable : tie.Need-add-is-non-printable
+add-is-non-printable c = omega (arith, c .before .before .good)
 
-returns-4 : tie.Need-returns-4
-returns-4 c = non-high _ _ _ (c .before .before .if1 .left) (c .before .if2 .left) (c .if3 .left)
+is-non-printable-requires : tie.Need-is-non-printable-requires
+is-non-printable-requires c κs = tt
+
+returns-3 : tie.Need-returns-3
+returns-3 c = c .is-non-printable .ensures ∙ non-print _ _ _ (c .before .before .if1 .left) (c .before .if2 .left)
 
 pub is-non-spec : {M : Type 1} → statement M
-is-non-spec = tie.close (tie.spec returns returns-2 returns-3 returns-4)
+is-non-spec = tie.close (tie.spec returns returns-2 add-is-non-printable is-non-printable-requires returns-3)
