@@ -10,8 +10,8 @@
 --   literal-back             a literal block, where `use_literal_block` holds and the value has no U+FEFF
 --   commented-literal-back   so too with a comment on its header's line
 --
--- Folding (document 01, item 4), over any weight of a byte:
---   fold-changes-spaces      changes nothing but breakable spaces
+-- Folding (document 01, item 4), of every text, with line breaks of its own or without, over any weight of a byte:
+--   fold-changes-spaces      changes nothing but breakable spaces, and keeps one only where its line ends at or before the width
 --   fold-keeps-width         on every line that keeps a breakable space the content ends at or before the width
 --   double-keeps-width,      so in every quoted body
 --   single-keeps-width
