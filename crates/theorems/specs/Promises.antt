@@ -8,6 +8,7 @@
 --   literal-in-flow-back,    literal and folded ones in flow, which are double quoted there
 --   folded-in-flow-back
 --   literal-back             a literal block, where `use_literal_block` holds and the value has no U+FEFF
+--   fitting-literal-back     so too where its characters and its first line fit a literal block (`fitsLiteral`), line break or none
 --   commented-literal-back   so too with a comment on its header's line
 --
 -- Folding (document 01, item 4), of every text, with line breaks of its own or without, over any weight of a byte:
@@ -29,5 +30,5 @@
 --
 -- Every call:
 --   only-outcome             no two outcomes meet its definition
-pub use Rattle.theorems.specs.Reading.{double-back, single-back, plain-back, literal-in-flow-back, folded-in-flow-back, literal-back, commented-literal-back, fold-changes-spaces, fold-keeps-width, double-keeps-width, single-keeps-width, double-folds, single-folds, plain-folds}
+pub use Rattle.theorems.specs.Reading.{double-back, single-back, plain-back, literal-in-flow-back, folded-in-flow-back, literal-back, fitting-literal-back, commented-literal-back, fold-changes-spaces, fold-keeps-width, double-keeps-width, single-keeps-width, double-folds, single-folds, plain-folds}
 pub use Rattle.theorems.specs.Demand3.{same-bytes, same-path, same-modified, same-files, handed-exactly, handed-only, modified-exactly, only-outcome}

@@ -30,10 +30,6 @@ module _ {R : ℕ → ℕ → Type 0} where
   near-place (swap r e i) = r
   near-place (near r h) = r
 
-  pub kin-brought : {n m : Node} → Near R false n m → brought n ≡ brought m
-  unfolding brought
-  kin-brought (near r h) = refl
-
   near-someItem : {swaps : Bool} {xs ys : Nodes} → NearItems R swaps xs ys → Walk.someItem xs ≡ Walk.someItem ys
   unfolding Walk.someItem
   near-someItem near-end = refl
