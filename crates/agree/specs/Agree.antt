@@ -150,6 +150,10 @@ module _ (deck pool : Bytes) where
 
   -- ---- the whole deck
 
+  tree-gives : (d : ℕ) (c : Cursor) → 0 ≤ c .at → Gives (Agrees (treeAt deck pool c) c) (readNode deck pool d c)
+  unfolding treeAt
+  tree-gives d c k = node-gives d (length deck - c .at) c (omega arith)
+
   trees-give : (n : ℕ) (c : Cursor) → Gives (λ ts e. treesFrom deck pool n c ≡ ts) (readTrees deck pool n c)
   unfolding readTrees treesFrom
   trees-give zero c = gives-got refl
