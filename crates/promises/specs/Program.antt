@@ -1,6 +1,8 @@
 -- DEMAND 3, of the program: what `crates/theorems` says of the definitions' outcomes, said once more of what the calls hand back.
 --
 --     program-bytes      what one include brought in does not change the bytes of its document, in any call that writes documents
+--     program-entries    an include on the path down to it has an entry in the list of the one run exactly when it has one in the other's: the
+--                        same entry
 --     program-files      of the files that are handed back, those around the include and beside it are the same, with their bytes and in their
 --                        order
 --     program-modified   nor does it change the answer of `local_modified`, unless the include is its document's root
@@ -26,8 +28,9 @@ use Rattle.answers.specs.Answer.{outcomeOf}
 use Rattle.theorems.specs.Around.{Touched}
 use Rattle.theorems.specs.Handed.{SameHanded}
 use Rattle.theorems.specs.Listed.{Exactly}
+use Rattle.theorems.specs.Entries.{SameEntries}
 use Rattle.theorems.specs.Answers.{bytesBack, filesAt, filesBack, Answered, One}
-use Rattle.theorems.specs.Demand3.{TwinDecks, Inner, Writes, same-bytes, same-modified, same-files, handed-exactly, handed-only, modified-exactly}
+use Rattle.theorems.specs.Demand3.{TwinDecks, Inner, Writes, same-bytes, same-modified, same-entries, same-files, handed-exactly, handed-only, modified-exactly}
 
 -- what a call handed back on what it was lent, as its contract has it
 pub record Ran (c : Call) (x : Lent) : Type 0 where
@@ -68,6 +71,10 @@ module _ {c : Call} {x : Lent} where
 module _ (x y : Lent) (w : TwinDecks x y) where
   pub program-bytes : (c : Call) → Writes c → (r : Ran c x) (s : Ran c y) → Answers r → Answers s → written r ≡ written s
   program-bytes c q r s h k = written-is r ∙ same-bytes x y w c q (answers-is r h) (answers-is s k) ∙ sym (written-is s)
+
+  pub program-entries : (r : Ran collectChangedIncludeChanges x) (s : Ran collectChangedIncludeChanges y) → Answers r → Answers s
+      → SameEntries (w .twin) (files r) (files s)
+  program-entries r s h k = rw (files-is r, files-is s) (same-entries x y w (answers-is r h) (answers-is s k))
 
   pub program-files : (r : Ran collectChangedIncludeChanges x) (s : Ran collectChangedIncludeChanges y) → Answers r → Answers s
       → SameHanded (w .include₁) (w .include₂) (files r) (files s)

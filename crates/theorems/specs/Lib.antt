@@ -24,4 +24,5 @@ pub mod Twin
 pub mod Handed
 pub mod DeckOrder
 pub mod Listed
+pub mod Entries
 pub mod Answers
