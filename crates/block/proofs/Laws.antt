@@ -246,9 +246,9 @@ module _ (s : Settings) (deck pool : Bytes) where
       if b then dashCompact (keptIn deck pool x) (i + 2) (members s (i + 2) false (kindIn deck pool x))
       else dashBlock (x .place) (keptIn deck pool x) (broughtIn deck pool x) (itemColumn s (broughtIn deck pool x) i (kindIn deck pool x)) (i + 2) (members s (itemColumn s (broughtIn deck pool x) i (kindIn deck pool x)) true (kindIn deck pool x))
 
-  dash-joined : (i : ℕ) (x : Spot) (P : Pen) → ink s (dashIn s deck pool i x) P ≡ ink s (dashWalk i x (onDashLine s (keptIn deck pool x) (broughtIn deck pool x) (kindIn deck pool x))) P
+  dash-joined : (i : ℕ) (x : Spot) (P : Pen) → ink s (dashIn s deck pool i x) P ≡ ink s (dashWalk i x (onDashLine (keptIn deck pool x) (broughtIn deck pool x) (kindIn deck pool x))) P
   unfolding ink dashIn dashBlock underOf openingOf dashOpen breaks
-  dash-joined i x P = go (onDashLine s (keptIn deck pool x) (broughtIn deck pool x) (kindIn deck pool x))
+  dash-joined i x P = go (onDashLine (keptIn deck pool x) (broughtIn deck pool x) (kindIn deck pool x))
     where
       go :
           (b : Bool) →
@@ -289,7 +289,7 @@ module _ (s : Settings) (deck pool : Bytes) where
       → Emits s (dash s i (nodeAt deck pool c)) P₀ P₂ (c .at) (nextAt deck pool c) r (length deck)
   unfolding dash nodeIn sign
   dash-block i c r x b d P₁ k l e p f t g u m =
-      let w : Emits s (dashWalk i x (onDashLine s (keptIn deck pool x) (broughtIn deck pool x) (kindIn deck pool x))) P₁ _ (x .place) (endIn deck pool x) r (length deck) =
+      let w : Emits s (dashWalk i x (onDashLine (keptIn deck pool x) (broughtIn deck pool x) (kindIn deck pool x))) P₁ _ (x .place) (endIn deck pool x) r (length deck) =
       record { drawn = m .drawn ∙ dash-joined i x P₁; next = m .next; onward = m .onward; within = m .within } in
       at-cursor s deck pool c r x (dash s i) k l e (drawn-first (sign '-') _ (of-byte mark '-' p) (emits-no _ _ _ (included-test x b f ∙ t) (emits-yes _ _ _ (block-test x d g ∙ u) w)))
 

@@ -72,7 +72,7 @@ module _ (s : Settings) (deck pool : Bytes) where
   -- a block collection after a dash at column i
   unfoldable pub dashIn : ℕ → Spot → Script
   dashIn i x =
-      if onDashLine s (keptIn deck pool x) (broughtIn deck pool x) (kindIn deck pool x) then dashCompact (keptIn deck pool x) (i + 2) (members s (i + 2) false (kindIn deck pool x))
+      if onDashLine (keptIn deck pool x) (broughtIn deck pool x) (kindIn deck pool x) then dashCompact (keptIn deck pool x) (i + 2) (members s (i + 2) false (kindIn deck pool x))
       else underOf true x (itemColumn s (broughtIn deck pool x) i (kindIn deck pool x)) (i + 2)
 
 -- the colon of an explicit key

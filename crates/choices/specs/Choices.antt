@@ -204,7 +204,7 @@ module _ (s : Settings) (deck pool : Bytes) (l : Lead) where
   unfolding itemColumn itemColumnIn
   item-column-is i b c = rw (sequence-is deck pool b c, has-props-is)
 
-  pub on-dash-line-is : (b : Body) (c : Cursor) → onDashLine s (keptOf deck pool l) (broughtOf deck pool l) (kindOf deck pool b c) ≡ onDashLineIn (l .lines) (l .tag) (l .anchor) (l .remark) b
+  pub on-dash-line-is : (b : Body) (c : Cursor) → onDashLine (keptOf deck pool l) (broughtOf deck pool l) (kindOf deck pool b c) ≡ onDashLineIn (l .lines) (l .tag) (l .anchor) (l .remark) b
   unfolding onDashLine keptOf layoutOf onDashLineIn
   on-dash-line-is b c = rw (sequence-is deck pool b c, has-props-is, remark-some)
 

@@ -193,7 +193,7 @@ module _ (s : Settings) (deck pool : Bytes) where
       → Emits s (placedOf s first passed (nodeAt deck pool c)) P R (c .at) (nextAt deck pool c) r (length deck)
   unfolding placedOf
   placed-whole first passed c r x {P} {Q} k e d m =
-      let f : Node → Script = λ n. if first then bom s n else separation s (kept n) in
+      let f : Node → Script = λ n. if first then bom n else separation (kept n) in
       let y : Draws (f (nodeAt deck pool c)) P Q = rw (ap f (node-is c x k e) ∙ front-is s deck pool first x) d in
       drawn-first (f (nodeAt deck pool c)) (document s passed (nodeAt deck pool c)) y m
 

@@ -55,7 +55,7 @@ frontIn first l = if first then bomIn (l .lines .marks) else separationIn l
 module _ (s : Settings) where
   -- a document with what stands before it
   unfoldable pub placedOf : Bool → Bool → Node → Script
-  placedOf first passed n = (if first then bom s n else separation s (kept n)) >> document s passed n
+  placedOf first passed n = (if first then bom n else separation (kept n)) >> document s passed n
 
   module _ (deck pool : Bytes) where
     -- a root that is a block collection, a root on one line, and any root
@@ -86,7 +86,7 @@ unfolding isNil runFrom on
 some-run e s zero c = refl
 some-run e s (suc n) c = rw (ne-eqb (suc n) 0 (λ e. absurd (omega arith)))
 
-pub front-is : (s : Settings) (deck pool : Bytes) (first : Bool) (x : Spot) → (if first then bom s (nodeIn deck pool x) else separation s (kept (nodeIn deck pool x))) ≡ frontIn first (x .lead)
+pub front-is : (s : Settings) (deck pool : Bytes) (first : Bool) (x : Spot) → (if first then bom (nodeIn deck pool x) else separation (kept (nodeIn deck pool x))) ≡ frontIn first (x .lead)
 unfolding bom separation nodeIn kept keptOf layoutOf bomIn separationIn frontIn
 front-is s deck pool true x = refl
 front-is s deck pool false x = rw some-run

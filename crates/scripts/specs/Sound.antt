@@ -228,7 +228,7 @@ module _ (s : Settings) where
         tt
         ⨾ sound-if (Walk.included a) _ _ (tt ⨾ sound-include p a)
         (sound-if (Walk.isBlock k) _ _
-        (sound-if (Walk.onDashLine s a b k) _ _ (sound-dashCompact a _ _ (sound-members k h _ false)) (sound-dashBlock p a b _ _ _ (sound-members k h _ true)))
+        (sound-if (Walk.onDashLine a b k) _ _ (sound-dashCompact a _ _ (sound-members k h _ false)) (sound-dashBlock p a b _ _ _ (sound-members k h _ true)))
         (sound-valueOf _ p a b _ _ (sound-content (node p a b k) h false false _)))
 
     pub sound-keyBelow : (n : Node) → Formed n → (i : ℕ) → Sound (Walk.keyBelow s i n)
@@ -273,11 +273,11 @@ module _ (s : Settings) where
       ⨾ sound-if (Walk.included a && not passed) _ _ (sound-include p a) (sound-body (node p a b k) h)
       ⨾ sound-foots a 0
 
-  sound-bom : (n : Node) → Sound (Document.bom s n)
+  sound-bom : (n : Node) → Sound (Document.bom n)
   unfolding Document.bom Sound nothing
   sound-bom n = sound-if (kept n .layout .leadingBom) _ _ tt tt
 
-  sound-separation : (a : Kept) → Sound (Document.separation s a)
+  sound-separation : (a : Kept) → Sound (Document.separation a)
   unfolding Document.separation Document.dashes Document.dots Sound nothing newline
   sound-separation a = sound-if (not (isNil (a .directives))) _ _ (tt ⨾ tt) (sound-if (a .layout .explicitStart) _ _ tt (tt ⨾ tt))
 
