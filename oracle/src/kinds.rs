@@ -92,6 +92,13 @@ pub const KINDS: &[Kind] = &[
     },
 ];
 
+/// A kind whose words do not stand in the page.
+pub fn unnamed(page: &str) -> Option<&'static Kind> {
+    let words: Vec<&str> = page.split_whitespace().collect();
+    let page = words.join(" ");
+    KINDS.iter().find(|kind| !page.contains(kind.words))
+}
+
 /// The kind that the smallest case of a difference shows, if it is a known one.
 pub fn of(reader: &str, case: &Case, bytes: &[u8]) -> Option<&'static Kind> {
     let text = String::from_utf8_lossy(bytes);

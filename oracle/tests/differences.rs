@@ -1,12 +1,23 @@
-//! docs/DIFFERENCES.md is true: every line of it, replayed through the Rust, gives the bytes that it shows.
+//! docs/DIFFERENCES.md is true: every line of it, replayed through the Rust, gives the bytes that it shows; and every kind of difference that
+//! `oracle/readers` knows is named there.
 
 use oracle::calls::{self, Call, Settings};
 use oracle::encode::NullStyle;
+use oracle::kinds;
+
+const PAGE: &str = include_str!("../../docs/DIFFERENCES.md");
+
+#[test]
+fn every_kind_is_named() {
+    let unnamed = kinds::unnamed(PAGE).map(|kind| kind.words);
+    assert_eq!(unnamed, None);
+    let first = kinds::unnamed("").map(|kind| kind.words);
+    assert_eq!(first, Some(kinds::KINDS[0].words));
+}
 
 #[test]
 fn every_line_is_what_the_rust_writes() {
-    let page = include_str!("../../docs/DIFFERENCES.md");
-    let lines: Vec<&str> = page.lines().filter(|line| line.contains(" ¦ ")).collect();
+    let lines: Vec<&str> = PAGE.lines().filter(|line| line.contains(" ¦ ")).collect();
     // The first line names the columns.
     assert!(
         lines.len() > 100,

@@ -5,7 +5,7 @@
 use oracle::calls::{Call, Settings};
 use oracle::deck::{self, Pooling};
 use oracle::encode::NullStyle;
-use oracle::kinds::{self, KINDS};
+use oracle::kinds;
 use oracle::random::{lending, Rng};
 use oracle::reading::{self, Reader};
 use oracle::shrink::{smallest, Case};
@@ -22,9 +22,7 @@ fn main() {
         fail("SEED and CASES are numbers.");
     };
     let page = std::fs::read_to_string(&words[1]).unwrap_or_else(|error| fail(&error.to_string()));
-    let page: Vec<&str> = page.split_whitespace().collect();
-    let page = page.join(" ");
-    if let Some(kind) = KINDS.iter().find(|kind| !page.contains(kind.words)) {
+    if let Some(kind) = kinds::unnamed(&page) {
         fail(&format!(
             "docs/DIFFERENCES.md does not say: {}.",
             kind.words
