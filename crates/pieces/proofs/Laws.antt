@@ -2,17 +2,17 @@
 use Prim.Native.Nat.{ℕ, _+_, _≤_, _<_}
 use native.Mathlib.Omega.{arith}
 use mathlib.Core.Path.{_≡_, refl, sym, ap, _∙_}
-use mathlib.Core.Bool.{Bool, true, false, true≢false, false≢true, not, _&&_, _||_}
+use mathlib.Core.Bool.{Bool, true, false, true≢false, false≢true, not}
 use mathlib.Core.List.{[], _∷_, _++_}
 use lib.ListN.{length, getD, drop}
 use lib.Seq.{drop-cons, getD-drop}
 use lib.Dec.{ltb, leb, eqb}
-use borrow.Author.Tests.{eqb-true, eq-eqb, ne-eqb, ltb-true, ltb-false, lt-ltb, le-ltb, le-leb, not-true}
+use borrow.Author.Tests.{eqb-true, eq-eqb, ne-eqb, ltb-true, lt-ltb, le-ltb, le-leb, not-true}
 use Rattle.definition.specs.Base.{Bytes, if_then_else_, within}
 use Rattle.definition.specs.Char.{nonPrintable}
 use Rattle.definition.specs.Quote.{digit, hex2, hex4, escaped}
-use Rattle.laws.specs.Tests.{below-it, above-it, is-within, by-test}
-use Rattle.laws.specs.Numbers.{high-print, wide-print, not-c1, not-non, non-is}
+use Rattle.laws.specs.Tests.{below-it, by-test}
+use Rattle.laws.specs.Numbers.{not-c1, not-non, not-non-next, non-is}
 use Rattle.laws.specs.Pieces.{isC1, isNon, doublePiece, doubleMore, singlePiece, quoteBy}
 use Rattle.laws.specs.Computed.{all, apply, equal, equal-is}
 use Rattle.pieces.specs.Piece.{letterOf, Written, Stands, Own}
@@ -56,43 +56,11 @@ pub c1-low : (a b : ℕ) → a ≡ 0xc2 → b < 0x80 → false ≡ isC1 a b
 unfolding isC1
 c1-low a b e h = rw (eq-eqb a 0xc2 e, ne-eqb b 0x85 (λ (q : b ≡ 0x85). omega arith), below-it 0x80 0x9f b h)
 
-pub c1-print : (a b : ℕ) → a ≡ 0xc2 → 0x80 ≤ b → b < 0x100 → nonPrintable b ≡ isC1 a b
-unfolding isC1
-c1-print a b e h l = rw (eq-eqb a 0xc2 e, high-print b h, below-it 0xfffe 0xffff b (omega arith)) (go (eqb b 0x85) (within 0x80 0x9f b))
-  where
-    go : (x y : Bool) → (if x then false else y || false) ≡ (not x && y)
-    go true y = refl
-    go false true = refl
-    go false false = refl
-
 pub non-first : (a b c : ℕ) → (a ≡ 0xef → ⊥) → false ≡ isNon a b c
 non-first a b c h = sym (not-non a b c h)
 
 pub non-second : (a b c : ℕ) → a ≡ 0xef → (b ≡ 0xbf → ⊥) → false ≡ isNon a b c
-unfolding isNon
-non-second a b c e h = rw (eq-eqb a 0xef e, ne-eqb b 0xbf h)
-
--- FF40 and a number are FFFE or FFFF where the number is BE or BF
-non-within : (c : ℕ) → within 0xfffe 0xffff (0xff40 + c) ≡ within 0xbe 0xbf c
-non-within c = go (ltb c 0xbe) (ltb 0xbf c) refl refl
-  where
-    low : c < 0xbe → within 0xfffe 0xffff (0xff40 + c) ≡ within 0xbe 0xbf c
-    low l = below-it 0xfffe 0xffff (0xff40 + c) (omega arith) ∙ sym (below-it 0xbe 0xbf c l)
-
-    high : 0xbf < c → within 0xfffe 0xffff (0xff40 + c) ≡ within 0xbe 0xbf c
-    high l = above-it 0xfffe 0xffff (0xff40 + c) (omega arith) ∙ sym (above-it 0xbe 0xbf c l)
-
-    mid : 0xbe ≤ c → c ≤ 0xbf → within 0xfffe 0xffff (0xff40 + c) ≡ within 0xbe 0xbf c
-    mid l h = is-within 0xfffe 0xffff (0xff40 + c) (omega arith) (omega arith) ∙ sym (is-within 0xbe 0xbf c l h)
-
-    go : (x y : Bool) → ltb c 0xbe ≡ x → ltb 0xbf c ≡ y → within 0xfffe 0xffff (0xff40 + c) ≡ within 0xbe 0xbf c
-    go true y p q = low (ltb-true c 0xbe p)
-    go false true p q = high (ltb-true 0xbf c q)
-    go false false p q = mid (ltb-false c 0xbe p) (ltb-false 0xbf c q)
-
-pub non-print : (a b c : ℕ) → a ≡ 0xef → b ≡ 0xbf → nonPrintable (0xff40 + c) ≡ isNon a b c
-unfolding isNon
-non-print a b c e g = rw (eq-eqb a 0xef e, eq-eqb b 0xbf g) (wide-print (0xff40 + c) (omega arith) ∙ non-within c)
+non-second a b c e h = sym (not-non-next a b c e h)
 
 pub double-ascii : (a b c : ℕ) (p : Piece) → a < 0x80 → Written (escaped a (a ∷ [])) 0 p → Written (doublePiece a b c) (doubleMore a b c) p
 unfolding doublePiece doubleMore
