@@ -1,4 +1,6 @@
 // What every call begins and ends with: the limits and the judge, and the answer that it hands back.
+#![tactic(auto)]
+
 ghost use Rattle.std.specs.Prelude.{◌≡◌, length, replicate};
 ghost use Rattle.answers.specs.Answer.{refusal};
 ghost use Rattle.answers.specs.Limits.{limit_of};
@@ -10,7 +12,7 @@ use judge::Verdict;
 // Number and place of the refusal, 0 and 0 of an answer; how many bytes were written; how many entries were stored; the yes or no of
 // `local_modified`.
 #[repr(C)]
-#[derive(Drop)]
+#[derive(Clone, Copy)]
 pub struct Answer {
     pub number: usize,
     pub place: usize,

@@ -1,4 +1,6 @@
 // What is written of a node without children: a null, an alias, a scalar that is replayed or written anew.
+#![tactic(auto)]
+
 ghost use Rattle.std.specs.Prelude.{◌≡◌, not, ◌&&◌, ◌∷◌, ◌<◌, ◌≤◌, ◌^◌, length};
 ghost use Rattle.definition.specs.Ascii.{'*'};
 ghost use Rattle.definition.specs.Settings.{is_tilde};

@@ -1,4 +1,6 @@
 // Nodes on lines of their own: block values, items, mappings, sequences. The second cycle of calls, above the one of content on one line.
+#![tactic(auto)]
+
 ghost use Rattle.std.specs.Prelude.{◌≡◌, ◌<◌, ◌^◌, true, length};
 ghost use Rattle.definition.specs.Walk.{value, dash, key_below, members};
 ghost use Rattle.terms.specs.Terms.{settings_in};

@@ -1,4 +1,6 @@
 // Block scalars, written straight out.
+#![tactic(auto)]
+
 ghost use Rattle.std.specs.Prelude.{◌≡◌, true, ◌^◌, ◌≤◌, ◌<◌, length, get_or, drop};
 ghost use Rattle.pen.specs.Pen.{pen, puts};
 ghost use Rattle.pen.specs.Runs.{Run};
@@ -22,7 +24,7 @@ fn line_end(t: &[u8], from: usize) -> usize
 }
 
 // On the way through a text: the place, and whether a line begins here.
-#[derive(Drop)]
+#[derive(Clone, Copy)]
 pub struct Going {
     pub w: Writer,
     pub at: usize,

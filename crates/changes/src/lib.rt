@@ -1,4 +1,6 @@
 // The lent list of entries: one entry stored, and a run of them from a walk over changed files.
+#![tactic(auto)]
+
 ghost use Rattle.std.specs.Prelude.{◌≡◌, ◌<◌, ◌≤◌, length, set};
 ghost use Rattle.changes.specs.Filled.{started, filled};
 

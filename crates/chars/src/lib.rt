@@ -1,4 +1,6 @@
 // Printability of a character, by a match over ranges of its number.
+#![tactic(auto)]
+
 ghost use Rattle.std.specs.Prelude.{◌≡◌};
 ghost use Rattle.definition.specs.Char.{non_printable};
 

@@ -1,4 +1,6 @@
 // The walk's tests on a node, and the columns that it chooses, from what the emitter takes of the node.
+#![tactic(auto)]
+
 ghost use Rattle.std.specs.Prelude.{◌≡◌, not, ◌&&◌, ◌||◌, ◌+◌, ◌<◌, ◌≤◌, ◌^◌, length};
 ghost use Rattle.definition.specs.Base.{is_nil};
 ghost use Rattle.definition.specs.Settings.{step_of, is_empty_style};

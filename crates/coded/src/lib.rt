@@ -1,5 +1,7 @@
 // How the fixed list of cases is coded: numbers, runs, and the sum of an output. docs/ORACLE.md has the list's form. What lies past its end
 // reads as 0.
+#![tactic(auto)]
+
 ghost use Rattle.std.specs.Prelude.{◌≤◌, ◌<◌, ◌^◌, length};
 
 // The number of four bytes, low byte first.

@@ -1,4 +1,6 @@
 // Records that repeat, written one after another, each a script of the definition: head comments, foot comments, directives.
+#![tactic(auto)]
+
 ghost use Rattle.std.specs.Prelude.{◌≡◌, ◌+◌, ◌<◌, ◌≤◌, ◌^◌, length};
 ghost use Rattle.definition.specs.Deck.{is_below};
 ghost use Rattle.definition.specs.Records.{heading_at};
@@ -13,7 +15,7 @@ use node::{Lead, Run};
 use pen::Writer;
 
 // Records that repeat: head comments, those of them over or under their node's introducer alone, foot comments, directives.
-#[derive(Drop)]
+#[derive(Clone, Copy)]
 pub enum Entries {
     Heads,
     Over,

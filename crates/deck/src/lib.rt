@@ -1,4 +1,6 @@
 // Reading a deck, totally: past the deck's end a byte is 0, an unknown kind reads as null, and the cursor after a record is never past the end.
+#![tactic(auto)]
+
 ghost use Rattle.std.specs.Prelude.{◌≡◌, ◌+◌, ◌<◌, ◌≤◌, ◌^◌, min, length, take, drop};
 ghost use Rattle.definition.specs.Records.{byte_at, word_at, text_at, style_of, form_of, side_of, file_at, include_at, heading_at, trailer_at, lines_at, words_at, group_at, record_of, kind_at, record_at, size_of};
 ghost use Rattle.definition.specs.Deck.{is_node, words, marked};
@@ -10,14 +12,14 @@ use definition::{
 };
 
 // A record, and the cursor after it.
-#[derive(Drop)]
+#[derive(Clone, Copy)]
 pub struct Entry {
     pub item: Record,
     pub next: Cursor,
 }
 
 // A reference, and the cursor after it.
-#[derive(Drop)]
+#[derive(Clone, Copy)]
 pub struct Reference {
     pub text: Text,
     pub next: Cursor,

@@ -1,4 +1,6 @@
 // Documents: a root's body, a document with its directives and comments, one document, and all documents of a deck.
+#![tactic(auto)]
+
 ghost use Rattle.std.specs.Prelude.{◌≡◌, ◌<◌, ◌^◌, true, not, ◌&&◌, length};
 ghost use Rattle.definition.specs.Document.{dashes, dots, one_document, all_documents};
 ghost use Rattle.terms.specs.Terms.{settings_in};

@@ -1,4 +1,6 @@
 // The emit program: standard input is a deck's length, the deck and its pool; what the deck holds, or the line of its refusal, is written.
+#![tactic(auto)]
+
 mod frame;
 
 use libc::{STDIN_FILENO, STDOUT_FILENO};

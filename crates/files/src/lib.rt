@@ -1,4 +1,6 @@
 // The files of changed includes, one after another in the lent output: one step writes one file.
+#![tactic(auto)]
+
 ghost use Rattle.std.specs.Prelude.{◌≡◌, ◌≤◌, length};
 ghost use Rattle.definition.specs.Settings.{plain_settings};
 ghost use Rattle.definition.specs.Calls.{no_change};
@@ -8,7 +10,7 @@ use definition::{Change, Cursor, File, NullStyle, Settings};
 
 // Where the walk over the deck stands, and where the next file starts in the output. Where `zero` is not 0 entries are zeros and nothing is
 // written.
-#[derive(Drop)]
+#[derive(Clone, Copy)]
 pub struct Walk {
     pub at: usize,
     pub start: usize,
@@ -16,14 +18,14 @@ pub struct Walk {
 }
 
 // An entry, and the walk after it.
-#[derive(Drop)]
+#[derive(Clone, Copy)]
 pub struct Made {
     pub change: Change,
     pub next: Walk,
 }
 
 // What a head comes to: the id of its file where `present` is not 0, its cursor, and the next head's.
-#[derive(Drop)]
+#[derive(Clone, Copy)]
 struct Found {
     present: usize,
     id: usize,

@@ -1,4 +1,6 @@
 // A node on one line: its content, keys, flow collections. The first cycle of calls; nothing here knows of block layout.
+#![tactic(auto)]
+
 ghost use Rattle.std.specs.Prelude.{◌+◌, ◌<◌, ◌≤◌, ◌^◌, true, length};
 ghost use Rattle.definition.specs.Settings.{step_of};
 ghost use Rattle.definition.specs.Walk.{content_of};
@@ -19,7 +21,7 @@ use spot::{Body, Spot};
 use terms::Terms;
 
 // The writer after something was written, and the cursor after it in the deck.
-#[derive(Drop)]
+#[derive(Clone, Copy)]
 pub struct Emitted {
     pub next: Cursor,
     pub w: Writer,

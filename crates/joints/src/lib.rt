@@ -1,4 +1,6 @@
 // What stands around a node on its line, and between and around the entries of a flow collection.
+#![tactic(auto)]
+
 ghost use Rattle.std.specs.Prelude.{◌≡◌, ◌<◌, ◌≤◌, ◌^◌, length};
 ghost use Rattle.definition.specs.Base.{if◌then◌else◌};
 ghost use Rattle.definition.specs.Ascii.{COMMA};
@@ -48,7 +50,7 @@ fn put_colon(w: Writer, out: &mut [u8], body: Body) -> Writer
 
 // How a node stands on its line: an entry of a flow collection; a value, to the end of the line; a value below its introducer, whose properties
 // are written already; a key before its colon; a key after `?`.
-#[derive(Drop)]
+#[derive(Clone, Copy)]
 pub enum Manner {
     Entry,
     Value,

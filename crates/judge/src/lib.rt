@@ -1,4 +1,6 @@
 // The judge: how many trees a deck is read into, or the number and the place of its refusal. It is the definition's reader without the trees.
+#![tactic(auto)]
+
 ghost use Rattle.std.specs.Prelude.{◌≡◌, false, [], ◌∷◌, ◌+◌, ◌≤◌, length, take, drop};
 ghost use Rattle.definition.specs.Utf8.{well_formed};
 ghost use Rattle.definition.specs.Deck.{references, texts_fault, meant, in_order, sound, read_record, read_node, read_deck};
@@ -7,13 +9,13 @@ ghost use Rattle.judge.specs.Judge.{step_of, lead_of, Fitting, refused_of, verdi
 use definition::{Cursor, Record, Text};
 
 // On to a cursor, or refused.
-#[derive(Drop)]
+#[derive(Clone, Copy)]
 pub enum Step {
     On(Cursor),
     Refused { number: usize, place: usize },
 }
 
-#[derive(Drop)]
+#[derive(Clone, Copy)]
 pub enum Verdict {
     Good { documents: usize },
     Refused { number: usize, place: usize },

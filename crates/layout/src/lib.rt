@@ -1,4 +1,6 @@
 // What stands on a line of block layout, but for the members of a block collection.
+#![tactic(auto)]
+
 ghost use Rattle.std.specs.Prelude.{◌≡◌, ◌<◌, ◌≤◌, ◌^◌, max, false, length};
 ghost use Rattle.definition.specs.Base.{if◌then◌else◌};
 ghost use Rattle.definition.specs.Pen.{nothing, indent};

@@ -1,5 +1,7 @@
 // Samples of the proved leaves. Every row of the list on standard input is run, and `NAME: ok` or `NAME: DIFFERS` is written for it. The file stdout
 // has the lines that are expected. The list's rows are the oracle's (oracle/src/leaf_rows.rs); docs/ORACLE.md has their form.
+#![tactic(auto)]
+
 mod asked;
 mod rows;
 mod written;

@@ -10,7 +10,7 @@ use terms::Terms;
 
 // The numbers of a row. A style may be a marker, or the place of a first comment; an indent, the spaces before a comment; a width, the place of a
 // comment that follows.
-#[derive(Drop)]
+#[derive(Clone, Copy)]
 struct Numbers {
     kind: usize,
     style: usize,

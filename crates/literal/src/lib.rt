@@ -1,4 +1,6 @@
 // Whether a text is written as a literal block. The emitter does not ask it: a node has its style. It is there for builders of trees.
+#![tactic(auto)]
+
 ghost use Rattle.std.specs.Prelude.{◌≡◌, true, ◌||◌, ◌+◌, ◌<◌, length, get_or, eqb};
 ghost use Rattle.definition.specs.Base.{has};
 ghost use Rattle.definition.specs.Ascii.{TAB, LF, SP};

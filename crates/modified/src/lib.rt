@@ -1,5 +1,7 @@
 // The changed test: whether the file that a node is in changed at or below it, and which changed files stand there. A node's children stand
 // after it in the deck, so both walks recurse on them.
+#![tactic(auto)]
+
 ghost use Rattle.std.specs.Prelude.{◌≡◌, not, ◌&&◌, ◌<◌, ◌≤◌, length};
 ghost use Rattle.spot.specs.Good.{count_in};
 ghost use Rattle.spot.specs.Spot.{spot_at};
@@ -14,7 +16,7 @@ use node::Origin;
 use spot::Body;
 
 // A node's own answer, and the children that are left to look at: pairs or items, how many nodes, and where the first one stands.
-#[derive(Drop)]
+#[derive(Clone, Copy)]
 struct Start {
     modified: bool,
     pairs: bool,
@@ -23,14 +25,14 @@ struct Start {
 }
 
 // Whether a node changed, and where it ends. The end is promised of a node that did not change.
-#[derive(Drop)]
+#[derive(Clone, Copy)]
 struct Looked {
     modified: bool,
     next: Cursor,
 }
 
 // The changed files at a node, and the children that are left to look at.
-#[derive(Drop)]
+#[derive(Clone, Copy)]
 struct Own {
     count: usize,
     kids: usize,
@@ -38,7 +40,7 @@ struct Own {
 }
 
 // How many changed files stand at and below a node, and where it ends.
-#[derive(Drop)]
+#[derive(Clone, Copy)]
 pub struct Counted {
     pub count: usize,
     pub next: Cursor,

@@ -1,4 +1,6 @@
 // What a node's leading records say, its own record's cursor, and where its subtree ends. Total: nothing is asked of the deck's bytes.
+#![tactic(auto)]
+
 ghost use Rattle.std.specs.Prelude.{◌≡◌, ◌+◌, ◌<◌, ◌≤◌, ◌^◌, length};
 ghost use Rattle.definition.specs.Records.{record_at};
 ghost use Rattle.node.specs.Head.{no_lead, onto, with_tag, with_anchor, with_origin, with_remark, with_raw, with_lines, more_heads, more_foots, more_directives, add_to, Small, front_of, head_at};
@@ -8,32 +10,32 @@ ghost use Rattle.node.specs.Comments.{is_comment, commented};
 use definition::{Cursor, Lines};
 
 // A tag, an anchor or a raw text that may be absent: the place of its record's body, or 0.
-#[derive(Drop)]
+#[derive(Clone, Copy)]
 pub struct Held {
     pub at: usize,
 }
 
 // An include that may be absent, by its place.
-#[derive(Drop)]
+#[derive(Clone, Copy)]
 pub struct Origin {
     pub at: usize,
 }
 
 // An inline comment that may be absent, by its place.
-#[derive(Drop)]
+#[derive(Clone, Copy)]
 pub struct Remark {
     pub at: usize,
 }
 
 // Records of one kind, one after another: the first one's cursor, and how many they are.
-#[derive(Drop)]
+#[derive(Clone, Copy)]
 pub struct Run {
     pub first: Cursor,
     pub count: usize,
 }
 
 // What records 01 to 09 say.
-#[derive(Drop)]
+#[derive(Clone, Copy)]
 pub struct Lead {
     pub tag: Held,
     pub anchor: Held,
@@ -47,7 +49,7 @@ pub struct Lead {
 }
 
 // What a node's leading records say, and the cursor of its own record.
-#[derive(Drop)]
+#[derive(Clone, Copy)]
 pub struct Front {
     pub lead: Lead,
     pub own: Cursor,

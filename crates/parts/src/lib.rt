@@ -1,4 +1,6 @@
 // Parts of lines, each a script of the definition: tags and anchors in three forms, inline comments, an include's directive, what stands before and below.
+#![tactic(auto)]
+
 ghost use Rattle.std.specs.Prelude.{◌≡◌, ◌<◌, ◌^◌, ◌||◌, ◌++◌, length};
 ghost use Rattle.definition.specs.Pen.{put, comment, directive};
 ghost use Rattle.definition.specs.Walk.{prop, props_compact, props_line, directive_of};

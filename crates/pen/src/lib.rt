@@ -1,5 +1,7 @@
 // The pen: a writer by value over a lent slice. It stores only inside the room, and counts two past it at most, so that whether the
 // finished bytes fit is known also where the last line break is dropped again.
+#![tactic(auto)]
+
 ghost use Rattle.std.specs.Prelude.{◌≡◌, ◌+◌, ◌-◌, ◌/◌, ◌%◌, ◌<◌, ◌≤◌, ◌^◌, min, max, not, [], length, replicate, eqb, leb};
 ghost use Rattle.std.proofs.lemmas.List.Edits.{sets};
 ghost use Rattle.definition.specs.Base.{spaces};
@@ -15,7 +17,7 @@ use terms::Terms;
 // start; INLINE times one more than the place of the node whose inline comment was written last, 0 at the start.
 // `state`: what the byte put last was put over, 0 past the room; 256 times that byte, 0 at the start; KEY inside an inline key; TRACKS where columns are
 // kept; FLOW times how many flow collections are open; COLUMN times the columns since the last line break, at most the room and two.
-#[derive(Drop)]
+#[derive(Clone, Copy)]
 pub struct Writer {
     pub counts: usize,
     pub state: usize,

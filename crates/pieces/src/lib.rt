@@ -1,4 +1,6 @@
 // Pieces of a quoted body: what is written for the byte at a place of a text, how wide that is, and how many bytes it speaks for.
+#![tactic(auto)]
+
 ghost use Rattle.std.specs.Prelude.{◌≡◌, true, ◌+◌, ◌^◌, ◌≤◌, ◌<◌, [], ◌∷◌, length, get_or, drop};
 ghost use Rattle.pen.specs.Pen.{pen, puts};
 ghost use Rattle.pen.specs.Runs.{Run};
@@ -12,7 +14,7 @@ use chars::is_non_printable;
 use pen::Writer;
 
 // A byte as it is; two bytes; `\x` of a character below 80; `\x` of C2 and a byte; `\u` of EF BF and a byte.
-#[derive(Drop)]
+#[derive(Clone, Copy)]
 pub enum Piece {
     Plain(u8),
     Pair(u8, u8),

@@ -1,4 +1,6 @@
 // What `collect_changed_include_changes` does beside filling its list: what is decided before, and what after.
+#![tactic(auto)]
+
 ghost use Rattle.std.specs.Prelude.{◌≡◌, ◌≤◌, length};
 ghost use Rattle.plan.specs.Plan.{nowhere, early, Counts, plan_of, is_late, answer_after, settled_of, cleared_of};
 
@@ -8,7 +10,7 @@ use judge::Verdict;
 
 // The answer so far; the walk that makes the first entry, and how many entries are stored. `stage` is 2 where files are to be written, 1 where
 // the list has no room for them, so that output and list are to be zeroed, and 0 where nothing is left to be decided.
-#[derive(Drop)]
+#[derive(Clone, Copy)]
 pub struct Plan {
     pub answer: Answer,
     pub first: Walk,

@@ -1,1 +1,2 @@
 // No code: specs/ holds demand 3, of what the calls hand back.
+#![tactic(auto)]

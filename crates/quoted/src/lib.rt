@@ -1,4 +1,6 @@
 // Quoted bodies, folded or not, written straight out: no body is made, the next piece is measured ahead.
+#![tactic(auto)]
+
 ghost use Rattle.std.specs.Prelude.{◌≡◌, true, false, ◌+◌, ◌*◌, ◌^◌, ◌≤◌, ◌<◌, length, get_or, drop};
 ghost use Rattle.pen.specs.Pen.{fields, pen, puts};
 ghost use Rattle.definition.specs.Fold.{breakable, has_breakable};
@@ -13,14 +15,14 @@ use pen::Writer;
 use pieces::{columns, others, piece_at, put_piece, put_single, quote_of, run_end};
 use terms::Terms;
 
-#[derive(Drop)]
+#[derive(Clone, Copy)]
 pub struct Fold {
     pub indent: usize,
     pub width: usize,
 }
 
 // On the way through a text: the place of the next byte that nothing written speaks for.
-#[derive(Drop)]
+#[derive(Clone, Copy)]
 pub struct Going {
     pub w: Writer,
     pub at: usize,
@@ -108,7 +110,7 @@ pub fn has_breakable(t: &[u8]) -> bool
 }
 
 // Measuring ahead: the columns so far, the place, and whether a space, or nothing, was passed last.
-#[derive(Drop)]
+#[derive(Clone, Copy)]
 pub struct Scan {
     pub n: usize,
     pub at: usize,
@@ -158,7 +160,7 @@ fn ahead(t: &[u8], from: usize, single: bool) -> usize
 }
 
 // On the way through a text that is folded: the column, the place, and whether a space, or nothing, was passed last.
-#[derive(Drop)]
+#[derive(Clone, Copy)]
 pub struct Line {
     pub w: Writer,
     pub col: usize,

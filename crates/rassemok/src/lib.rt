@@ -1,5 +1,7 @@
 // The public calls: one document written, all documents, under a null style or under settings; the changed test. Nothing is asked of the
 // caller.
+#![tactic(auto)]
+
 ghost use Rattle.std.specs.Prelude.{◌≡◌, []};
 ghost use Rattle.definition.specs.Settings.{null_as, null_style_of, is_on};
 ghost use Rattle.definition.specs.Calls.{outcome, emit_roundtrip, emit_roundtrip_with, emit_roundtrip_all_with, emit_roundtrip_dump, call_local_modified, collect_changed_include_changes, tell_modified};
@@ -15,7 +17,7 @@ use judge::Verdict;
 
 // Settings, as numbers.
 #[repr(C)]
-#[derive(Drop)]
+#[derive(Clone, Copy)]
 pub struct Options {
     pub null_style: usize,
     pub indent_sequences: usize,

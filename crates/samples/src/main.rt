@@ -1,5 +1,7 @@
 // The fixed list of cases, read from the file that args names, through the public calls. The line that is written says how many came out as
 // the Rust has them, how many did not, and how many are of calls that are not replayed here.
+#![tactic(auto)]
+
 mod replay;
 
 use libc::STDOUT_FILENO;

@@ -10,7 +10,7 @@ use rassemok::Options;
 const LAST_CALL: usize = 4;
 
 // How many cases came out as expected, how many did not, and how many are of calls that are not replayed.
-#[derive(Drop)]
+#[derive(Clone, Copy)]
 pub struct Tally {
     pub good: usize,
     pub bad: usize,

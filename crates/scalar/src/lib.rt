@@ -1,4 +1,6 @@
 // Scalars and the separators between flow entries, written straight out: what must be quoted, how, and the bytes.
+#![tactic(auto)]
+
 ghost use Rattle.std.specs.Prelude.{◌≡◌, false, ◌&&◌, ◌+◌, ◌^◌, ◌≤◌, ◌<◌, ◌++◌, length, get_or, leb, ltb};
 ghost use Rattle.definition.specs.Base.{if◌then◌else◌};
 ghost use Rattle.definition.specs.Fold.{size, has_breakable};

@@ -1,1 +1,2 @@
 // Laws of scripts and of the pen under a script, in specs/.
+#![tactic(auto)]

@@ -1,4 +1,6 @@
 // A node as the emitter takes it: what its leading records say, what it is, its place, and where its children begin.
+#![tactic(auto)]
+
 ghost use Rattle.std.specs.Prelude.{◌≡◌, ◌≤◌, length};
 ghost use Rattle.definition.specs.Records.{record_at};
 ghost use Rattle.spot.specs.Spot.{body_of, case_of, spot_at};
@@ -6,7 +8,7 @@ ghost use Rattle.spot.specs.Spot.{body_of, case_of, spot_at};
 use definition::{Cursor, Group, Text, Words};
 use node::Lead;
 
-#[derive(Drop)]
+#[derive(Clone, Copy)]
 pub enum Body {
     Null,
     Scalar(Words),
@@ -28,7 +30,7 @@ pub fn case_of(body: Body) -> usize
     }
 }
 
-#[derive(Drop)]
+#[derive(Clone, Copy)]
 pub struct Spot {
     pub lead: Lead,
     pub body: Body,

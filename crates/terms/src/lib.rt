@@ -1,11 +1,13 @@
 // The settings of a run in one number, so that they go from call to call in a register (docs/DECISIONS.md). Which settings a number tells is `settings_in`.
+#![tactic(auto)]
+
 ghost use Rattle.std.specs.Prelude.{◌≡◌, ◌<◌, ◌≤◌};
 ghost use Rattle.definition.specs.Settings.{is_empty_style, is_tilde, null_style_of, is_on};
 ghost use Rattle.terms.specs.Terms.{settings_in};
 
 use definition::{NullStyle, Settings};
 
-#[derive(Drop)]
+#[derive(Clone, Copy)]
 pub struct Terms {
     pub told: usize,
 }

@@ -1,4 +1,6 @@
 // Documents written: from the deck to the answer.
+#![tactic(auto)]
+
 ghost use Rattle.std.specs.Prelude.{◌≡◌, [], true, false};
 ghost use Rattle.terms.specs.Terms.{settings_in};
 ghost use Rattle.pen.specs.Pen.{pen};
