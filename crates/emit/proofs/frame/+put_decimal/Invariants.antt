@@ -1,0 +1,5 @@
+-- `put_decimal`: what falls at each call of itself, and what its callees claim.
+use Rattle.emit.proofs.frame.+put_decimal.Given as goal
+
+abbrev pub decreases-put_decimal : goal.decreases-put_decimal
+decreases-put_decimal l = l.most
