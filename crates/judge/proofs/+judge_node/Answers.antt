@@ -7,7 +7,7 @@ use Rattle.judge.proofs.Laws.{node-stop, node-deep, node-go, fits_on, each-stop,
 use Rattle.judge.proofs.+judge_node.Goals as goal
 
 pub judge_lead-lead-requires : goal.judge_lead-lead-requires
-judge_lead-lead-requires t c = c.requires.1
+judge_lead-lead-requires t c = c.requires
 
 pub returns-in_default : goal.returns-in_default
 returns-in_default t c = node-stop c.args.deck.now c.args.pool.now c.args.levels c.args.c _ c.judge_lead-lead.ensures.0 _ _ c.in_default.is

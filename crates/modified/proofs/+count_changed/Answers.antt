@@ -14,7 +14,7 @@ pub count_changed-child-requires : goal.count_changed-child-requires
 count_changed-child-requires t c = let s = child-less c.args.deck.now c.args.c _ _ c.loop-rest.rest c.loop-rest.here c.count_own-own.ensures.after c.loop-rest.invariant.going c.loop-rest-test.true in let q = c.loop-rest.invariant.going.within in search rules
 
 pub overflow_add-count : goal.overflow_add-count
-overflow_add-count t c = let f = tally-fits c.args.deck.now c.args.c _ c.count_own-own.ensures c.loop-rest.count c.loop-rest.rest c.loop-rest.here c.loop-rest.invariant in let g = c.count_changed-child.ensures.few in let w = c.count_changed-child.ensures.within in let l = c.requires.1.1 in omega (arith, f, g, w, l)
+overflow_add-count t c = let f = tally-fits c.args.deck.now c.args.c _ c.count_own-own.ensures c.loop-rest.count c.loop-rest.rest c.loop-rest.here c.loop-rest.invariant in let g = c.count_changed-child.ensures.few in let w = c.count_changed-child.ensures.within in let l = c.requires.1 in omega (arith, f, g, w, l)
 
 pub loop-rest-preserved : goal.loop-rest-preserved
 loop-rest-preserved t c = tally-more _ _ _ _ _ _ _ c.loop-rest-test.true c.count_changed-child.ensures c.loop-rest.invariant

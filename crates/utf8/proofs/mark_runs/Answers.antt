@@ -27,10 +27,10 @@ run_end-requires c = let s = c.args.s.now in
     let h = c.next_start-at.ensures in
     let e : k + 1 ≡ c.loop-left.left = omega (arith, c.loop-left-test.true) in
     let l : 64 * k ≤ length s = omega (arith, c.loop-left.invariant.0, c.loop-left-test.true) in
-    let n = start-near s (64 * k) in (
-      (omega (arith, h, start-in s (64 * k) l), omega (arith, h, n.0), omega (arith, h, n.1), omega (arith, c.requires.1, c.loop-left.invariant.1)),
-      rw e c.loop-left.invariant.2,
-    )
+    let n = start-near s (64 * k) in record {
+      at_in_bounds = (omega (arith, h, start-in s (64 * k) l), omega (arith, h, n.0), omega (arith, h, n.1), omega (arith, c.requires.1, c.loop-left.invariant.1));
+      runs = rw e c.loop-left.invariant.2;
+    }
 
 pub narrow-end-requires : goal.narrow-end-requires
 narrow-end-requires c = omega (arith, c.run_end.ensures.inside, c.requires.0)

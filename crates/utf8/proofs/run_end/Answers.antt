@@ -7,13 +7,13 @@ use Rattle.utf8.proofs.Runs.{run_none, run_more, run-middle, char-in, start_is, 
 use Rattle.utf8.proofs.run_end.Goals as goal
 
 pub overflow_mul-limit : goal.overflow_mul-limit
-overflow_mul-limit c = omega (arith, c.requires.0, c.well_formed)
+overflow_mul-limit c = omega (arith, c.requires.at_in_bounds, c.well_formed)
 
 pub overflow_add-limit : goal.overflow_add-limit
-overflow_add-limit c = omega (arith, c.requires.0, c.well_formed)
+overflow_add-limit c = omega (arith, c.requires.at_in_bounds, c.well_formed)
 
 pub loop-i-init : goal.loop-i-init
-loop-i-init c = (c.requires.0.0, λ e r. r, λ l. absurd (omega (arith, l, c.requires.0)))
+loop-i-init c = (c.requires.at_in_bounds.0, λ e r. r, λ l. absurd (omega (arith, l, c.requires.at_in_bounds)))
 
 pub char_len-n-requires : goal.char_len-n-requires
 char_len-n-requires c = c.loop-i.invariant.0
@@ -40,20 +40,20 @@ pub is_boundary-requires : goal.is_boundary-requires
 is_boundary-requires c = tt
 
 pub overflow_add-block : goal.overflow_add-block
-overflow_add-block c = omega (arith, c.requires.0, c.well_formed)
+overflow_add-block c = omega (arith, c.requires.at_in_bounds, c.well_formed)
 
 pub offset_bounds-ends-block : goal.offset_bounds-ends-block
-offset_bounds-ends-block c = omega (arith, c.requires.0, c.well_formed)
+offset_bounds-ends-block c = omega (arith, c.requires.at_in_bounds, c.well_formed)
 
 pub bounds-ends-block : goal.bounds-ends-block
-bounds-ends-block c = omega (arith, c.requires.0, c.loop-i.invariant.0, c.loop-i-test.false)
+bounds-ends-block c = omega (arith, c.requires.at_in_bounds, c.loop-i.invariant.0, c.loop-i-test.false)
 
 pub wide-requires : goal.wide-requires
 wide-requires c = tt
 
 pub returns-then-is_boundary : goal.returns-then-is_boundary
 returns-then-is_boundary c = let e = c.loop-i.invariant.2 c.loop-i-test.false (sym c.is_boundary.ensures ∙ c.if-is_boundary.true) in
-    rw c.wide.ensures (c.loop-i.invariant.1 _ (run_by c.args.s.now c.args.ends.now c.args.block c.loop-i.i c.requires.1 c.loop-i-test.false c.loop-i.invariant.0 c.requires.0.3 e))
+    rw c.wide.ensures (c.loop-i.invariant.1 _ (run_by c.args.s.now c.args.ends.now c.args.block c.loop-i.i c.requires.runs c.loop-i-test.false c.loop-i.invariant.0 c.requires.at_in_bounds.3 e))
 
 pub returns : goal.returns
 returns c = c.loop-i.invariant.1 _ (run-middle c.args.s.now c.loop-i.i c.loop-i.invariant.0 (sym c.is_boundary.ensures ∙ c.if-is_boundary.false))

@@ -12,7 +12,10 @@ pub returns-then-past-from : goal.returns-then-past-from
 returns-then-past-from c = let z : c.args.len ≡ 0 = omega (arith, c.if-past-from.true) in rw (z, none_left)
 
 pub run_end-end-requires : goal.run_end-end-requires
-run_end-end-requires c = ((omega (arith, c.requires.0), omega arith, omega arith, c.requires.1), runs-from _ _ _ _ (omega arith) c.requires.2)
+run_end-end-requires c = record {
+  at_in_bounds = (omega (arith, c.requires.0), omega arith, omega arith, c.requires.1);
+  runs = runs-from _ _ _ _ (omega arith) c.requires.2;
+}
 
 pub returns-then-end-past : goal.returns-then-end-past
 returns-then-end-past c = sym (run_past c.args.s.now c.args.from c.args.len _ c.requires.0 c.run_end-end.ensures c.if-end-past.true)
