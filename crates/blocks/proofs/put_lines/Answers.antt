@@ -12,7 +12,7 @@ pub loop-g-smaller : goal.loop-g-smaller
 loop-g-smaller c = let h = c.line_turn-g.ensures.1 in let t = c.loop-g-test.true in omega arith
 
 pub loop-g-preserved : goal.loop-g-preserved
-loop-g-preserved c = (c.line_turn-g.ensures.0 ∙ c.loop-g.invariant.0, c.line_turn-g.auto.1.0 ∙ c.loop-g.invariant.1)
+loop-g-preserved c = (c.line_turn-g.ensures.0 ∙ c.loop-g.invariant.0, c.line_turn-g.auto.out ∙ c.loop-g.invariant.1)
 
 pub returns : goal.returns
 unfolding indented puts

@@ -11,7 +11,7 @@ pub put_entry-u-requires : goal.put_entry-u-requires
 put_entry-u-requires c = let i = c.loop-left.invariant in let p = c.requires.0 in (omega (arith, p, i.1), omega (arith, i.2))
 
 pub loop-left-preserved : goal.loop-left-preserved
-loop-left-preserved c = (turn _ _ _ _ _ _ _ _ _ _ _ c.loop-left-test.true c.loop-left.invariant.3 c.put_entry-u.ensures c.loop-left.invariant.0, c.put_entry-u.auto.1.1.1.0 ∙ c.loop-left.invariant.1, (let i = c.loop-left.invariant in omega (arith, i.2, i.4, c.loop-left-test.true)), c.loop-left.invariant.3, c.loop-left.invariant.4)
+loop-left-preserved c = (turn _ _ _ _ _ _ _ _ _ _ _ c.loop-left-test.true c.loop-left.invariant.3 c.put_entry-u.ensures c.loop-left.invariant.0, c.put_entry-u.auto.out ∙ c.loop-left.invariant.1, (let i = c.loop-left.invariant in omega (arith, i.2, i.4, c.loop-left-test.true)), c.loop-left.invariant.3, c.loop-left.invariant.4)
 
 pub shape_of-out : goal.shape_of-out
 shape_of-out c = c.loop-left.invariant.1

@@ -202,7 +202,7 @@ pub lined_group-spaces-v1-requires : goal.lined_group-spaces-v1-requires
 lined_group-spaces-v1-requires t c = let r = c.requires.0 in let z = after (after-byte _ _ _ _ (after-byte _ _ _ _ r c.byte-w1.ensures) c.byte-w2.ensures) _ _ _ c.lined_entries-e.ensures.drawn in omega (arith, z.out-small)
 
 pub lined_group-byte-v2-requires : goal.lined_group-byte-v2-requires
-lined_group-byte-v2-requires t c = let r = c.requires.0 in let z = after (after-byte _ _ _ _ (after-byte _ _ _ _ r c.byte-w1.ensures) c.byte-w2.ensures) _ _ _ c.lined_entries-e.ensures.drawn in let k = c.spaces-v1.auto.1.0 in omega (arith, z.out-small, k)
+lined_group-byte-v2-requires t c = let r = c.requires.0 in let z = after (after-byte _ _ _ _ (after-byte _ _ _ _ r c.byte-w1.ensures) c.byte-w2.ensures) _ _ _ c.lined_entries-e.ensures.drawn in let k = c.spaces-v1.auto.out in omega (arith, z.out-small, k)
 
 pub lined_group-shape_of-out : goal.lined_group-shape_of-out
 lined_group-shape_of-out t c = kept-length _ (lined-whole _ _ _ _ _ _ _ _ _ _ _ c.opening_of.ensures c.closing_of.ensures c.byte-w1.ensures c.byte-w2.ensures c.lined_entries-e.ensures c.spaces-v1.ensures c.byte-v2.ensures)

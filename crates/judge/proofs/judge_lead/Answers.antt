@@ -11,13 +11,19 @@ pub judge_record-s-requires : goal.judge_record-s-requires
 judge_record-s-requires c = c.requires
 
 pub returns-in_default : goal.returns-in_default
-returns-in_default c = (lead-stop c.args.deck.now c.args.pool.now c.loop-left.last c.loop-left.here c.loop-left.left _ _ _ c.loop-left-test.true c.judge_record-s.ensures c.in_default.is ∙ c.loop-left.invariant, rw c.in_default.is tt)
+returns-in_default c = record {
+  value = lead-stop c.args.deck.now c.args.pool.now c.loop-left.last c.loop-left.here c.loop-left.left _ _ _ c.loop-left-test.true c.judge_record-s.ensures c.in_default.is ∙ c.loop-left.invariant;
+  fitting = rw c.in_default.is tt;
+}
 
 pub is_node-requires : goal.is_node-requires
 is_node-requires c = tt
 
 pub returns-then-is_node : goal.returns-then-is_node
-returns-then-is_node c = (lead-node c.args.deck.now c.args.pool.now c.loop-left.last c.loop-left.here c.loop-left.left _ _ _ c.loop-left-test.true c.judge_record-s.ensures c.in-On.is c.is_node.ensures c.if-is_node.true ∙ c.loop-left.invariant, lead-fits c.args.deck.now c.args.pool.now c.loop-left.last c.loop-left.here _ _ c.judge_record-s.ensures c.in-On.is)
+returns-then-is_node c = record {
+  value = lead-node c.args.deck.now c.args.pool.now c.loop-left.last c.loop-left.here c.loop-left.left _ _ _ c.loop-left-test.true c.judge_record-s.ensures c.in-On.is c.is_node.ensures c.if-is_node.true ∙ c.loop-left.invariant;
+  fitting = lead-fits c.args.deck.now c.args.pool.now c.loop-left.last c.loop-left.here _ _ c.judge_record-s.ensures c.in-On.is;
+}
 
 pub kind-last-requires : goal.kind-last-requires
 kind-last-requires c = tt
@@ -26,4 +32,7 @@ pub loop-left-preserved : goal.loop-left-preserved
 loop-left-preserved c = lead-more c.args.deck.now c.args.pool.now c.loop-left.last c.loop-left.here c.loop-left.left _ _ _ _ c.loop-left-test.true c.judge_record-s.ensures c.in-On.is c.is_node.ensures c.if-is_node.false c.kind-last.ensures.0 ∙ c.loop-left.invariant
 
 pub returns : goal.returns
-returns c = (lead-done c.args.deck.now c.args.pool.now c.loop-left.last c.loop-left.here c.loop-left.left (omega arith) ∙ c.loop-left.invariant, tt)
+returns c = record {
+  value = lead-done c.args.deck.now c.args.pool.now c.loop-left.last c.loop-left.here c.loop-left.left (omega arith) ∙ c.loop-left.invariant;
+  fitting = tt;
+}

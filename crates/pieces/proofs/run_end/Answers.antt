@@ -14,7 +14,7 @@ pub returns-then-not-is_own : goal.returns-then-not-is_own
 returns-then-not-is_own c = c.loop-i.invariant
 
 pub loop-i-preserved : goal.loop-i-preserved
-loop-i-preserved c = run_on _ _ _ _ c.loop-i.invariant c.loop-i-test.true (c.is_own.ensures (not-false _ c.if-not-is_own.false))
+loop-i-preserved c = run_on _ _ _ _ c.loop-i.invariant c.loop-i-test.true (c.is_own.ensures c.if-not-is_own.false)
 
 pub returns : goal.returns
 returns c = c.loop-i.invariant

@@ -6,10 +6,10 @@ use Rattle.quoted.proofs.Folds.{fold-broken, fold-kept}
 use Rattle.quoted.proofs.fold_gap.Goals as goal
 
 pub overflow_add-result : goal.overflow_add-result
-overflow_add-result c = let h = c.requires.0.inside in let l = c.requires.0.short in omega arith
+overflow_add-result c = let h = c.requires.passing.inside in let l = c.requires.passing.short in omega arith
 
 pub returns-then-need-f : goal.returns-then-need-f
-returns-then-need-f c = record { same = fold-broken _ c.args.t.now c.args.i c.requires.0.inside (folding c.args.f) _ _ _ _ _ _ c.requires.1 c.ahead.ensures.0 c.if-need-f.true c.byte-w.ensures c.spaces-w.ensures; grows = omega arith; on = omega arith; long = c.spaces-w.auto.1.0 ∙ c.byte-w.auto.1.0 }
+returns-then-need-f c = record { same = fold-broken _ c.args.t.now c.args.i c.requires.passing.inside (folding c.args.f) _ _ _ _ _ _ c.requires.t_value c.ahead.ensures.0 c.if-need-f.true c.byte-w.ensures c.spaces-w.ensures; grows = omega arith; on = omega arith; long = c.spaces-w.auto.out ∙ c.byte-w.auto.out }
 
 pub returns : goal.returns
-returns c = record { same = fold-kept _ c.args.t.now c.args.i c.requires.0.inside (folding c.args.f) _ _ _ _ _ c.requires.1 c.ahead.ensures.0 c.if-need-f.false c.byte-w-2.ensures; grows = omega arith; on = omega arith; long = c.byte-w-2.auto.1.0 }
+returns c = record { same = fold-kept _ c.args.t.now c.args.i c.requires.passing.inside (folding c.args.f) _ _ _ _ _ c.requires.t_value c.ahead.ensures.0 c.if-need-f.false c.byte-w-2.ensures; grows = omega arith; on = omega arith; long = c.byte-w-2.auto.out }

@@ -11,7 +11,7 @@ pub loop-g-smaller : goal.loop-g-smaller
 loop-g-smaller c = let h = c.body_turn-g.ensures.on in let t = c.loop-g-test.true in omega arith
 
 pub loop-g-preserved : goal.loop-g-preserved
-loop-g-preserved c = (c.body_turn-g.ensures.same ∙ c.loop-g.invariant.0, c.body_turn-g.auto.1.0 ∙ c.loop-g.invariant.1)
+loop-g-preserved c = (c.body_turn-g.ensures.same ∙ c.loop-g.invariant.0, c.body_turn-g.auto.out ∙ c.loop-g.invariant.1)
 
 pub shape_of-out : goal.shape_of-out
 shape_of-out c = c.loop-g.invariant.1

@@ -7,13 +7,13 @@ pub will_fold-requires : goal.will_fold-requires
 will_fold-requires c = tt
 
 pub returns-then-not-will_fold : goal.returns-then-not-will_fold
-returns-then-not-will_fold c = rw (← c.will_fold.ensures, not-true c.will_fold.result c.if-not-will_fold.true)
+returns-then-not-will_fold c = rw (← c.will_fold.ensures, c.if-not-will_fold.true)
 
 pub returns-then-column-t : goal.returns-then-column-t
-returns-then-column-t c = rw (← c.will_fold.ensures, not-false c.will_fold.result c.if-not-will_fold.false, size-length, ← c.width.ensures, le-ltb _ _ c.if-column-t.true)
+returns-then-column-t c = rw (← c.will_fold.ensures, c.if-not-will_fold.false, size-length, ← c.width.ensures, le-ltb _ _ c.if-column-t.true)
 
 pub has_breakable-requires : goal.has_breakable-requires
 has_breakable-requires c = tt
 
 pub returns : goal.returns
-returns c = rw (← c.will_fold.ensures, not-false c.will_fold.result c.if-not-will_fold.false, size-length, ← c.width.ensures, lt-ltb _ _ c.if-column-t.false) c.has_breakable.ensures
+returns c = rw (← c.will_fold.ensures, c.if-not-will_fold.false, size-length, ← c.width.ensures, lt-ltb _ _ c.if-column-t.false) c.has_breakable.ensures
