@@ -75,7 +75,7 @@ fn with_colon(e: Emitted, out: &mut [u8], i: usize) -> Emitted
 }
 
 // What a block collection holds, at column i; `begin` is off where its first line is begun already.
-#[cycle(put_dash_put_dashed_put_key_put_members_put_question_put_row_put_rows_put_under_put_value)]
+#[cycle(members)]
 pub fn put_members(
     w: Writer,
     deck: &[u8],
@@ -97,7 +97,7 @@ pub fn put_members(
 }
 
 // `emit_block_sequence` and `emit_block_mapping`: the n items or pairs from a cursor on.
-#[cycle(put_dash_put_dashed_put_key_put_members_put_question_put_row_put_rows_put_under_put_value)]
+#[cycle(members)]
 fn put_rows(
     w: Writer,
     deck: &[u8],
@@ -130,7 +130,7 @@ fn put_rows(
 }
 
 // An item or a pair, with what stands before it.
-#[cycle(put_dash_put_dashed_put_key_put_members_put_question_put_row_put_rows_put_under_put_value)]
+#[cycle(members)]
 fn put_row(
     w: Writer,
     deck: &[u8],
@@ -157,7 +157,7 @@ fn put_row(
 }
 
 // A key with its colon: after `?`, or inline.
-#[cycle(put_dash_put_dashed_put_key_put_members_put_question_put_row_put_rows_put_under_put_value)]
+#[cycle(members)]
 fn put_key(
     w: Writer,
     deck: &[u8],
@@ -181,7 +181,7 @@ fn put_key(
 }
 
 // The key of `emit_explicit_key_pair`, after the `?` at column i.
-#[cycle(put_dash_put_dashed_put_key_put_members_put_question_put_row_put_rows_put_under_put_value)]
+#[cycle(members)]
 fn put_question(
     w: Writer,
     deck: &[u8],
@@ -204,7 +204,7 @@ fn put_question(
 }
 
 // `emit_value_after_colon`, its key at column i.
-#[cycle(put_dash_put_dashed_put_key_put_members_put_question_put_row_put_rows_put_under_put_value)]
+#[cycle(members)]
 fn put_value(
     w: Writer,
     deck: &[u8],
@@ -238,7 +238,7 @@ fn put_value(
 }
 
 // `emit_sequence_item_body` of the node at a cursor, its dash at column i.
-#[cycle(put_dash_put_dashed_put_key_put_members_put_question_put_row_put_rows_put_under_put_value)]
+#[cycle(members)]
 fn put_dash(
     w: Writer,
     deck: &[u8],
@@ -272,7 +272,7 @@ fn put_dash(
 }
 
 // A block collection after the dash at column i: on its line, or below it.
-#[cycle(put_dash_put_dashed_put_key_put_members_put_question_put_row_put_rows_put_under_put_value)]
+#[cycle(members)]
 fn put_dashed(
     w: Writer,
     deck: &[u8],
@@ -296,7 +296,7 @@ fn put_dashed(
 }
 
 // A block collection below its introducer, its body at column j, its foot comments at column k.
-#[cycle(put_dash_put_dashed_put_key_put_members_put_question_put_row_put_rows_put_under_put_value)]
+#[cycle(members)]
 fn put_under(
     w: Writer,
     deck: &[u8],

@@ -56,7 +56,7 @@ fn is_lined(deck: &[u8], quiet: bool, pairs: bool, c: Cursor, n: usize) -> bool
 }
 
 // `emit_inline_content` of a node.
-#[cycle(content_entry_key_entry_node_flow_entries_flow_entry_group_line_lined_entries_lined_entry_lined_group_nested_plain_group)]
+#[cycle(content)]
 fn content(
     w: Writer,
     deck: &[u8],
@@ -104,7 +104,7 @@ fn content(
 }
 
 // A flow collection, one level deeper: entered and left here, so that only here the writer is handed on, and a scalar's need not be kept in memory.
-#[cycle(content_entry_key_entry_node_flow_entries_flow_entry_group_line_lined_entries_lined_entry_lined_group_nested_plain_group)]
+#[cycle(content)]
 fn nested(
     w: Writer,
     deck: &[u8],
@@ -129,7 +129,7 @@ fn nested(
 }
 
 // A flow collection of n entries: items, or pairs.
-#[cycle(content_entry_key_entry_node_flow_entries_flow_entry_group_line_lined_entries_lined_entry_lined_group_nested_plain_group)]
+#[cycle(content)]
 fn group(
     w: Writer,
     deck: &[u8],
@@ -154,7 +154,7 @@ fn group(
 }
 
 // `emit_commented_flow_sequence` and `emit_commented_flow_mapping`: each entry on a line of its own, at column j.
-#[cycle(content_entry_key_entry_node_flow_entries_flow_entry_group_line_lined_entries_lined_entry_lined_group_nested_plain_group)]
+#[cycle(content)]
 fn lined_group(
     w: Writer,
     deck: &[u8],
@@ -180,7 +180,7 @@ fn lined_group(
 }
 
 // `emit_flow_sequence` and `emit_flow_mapping`.
-#[cycle(content_entry_key_entry_node_flow_entries_flow_entry_group_line_lined_entries_lined_entry_lined_group_nested_plain_group)]
+#[cycle(content)]
 fn plain_group(
     w: Writer,
     deck: &[u8],
@@ -204,7 +204,7 @@ fn plain_group(
 }
 
 // The n entries from a cursor on, each on a line of its own at column i.
-#[cycle(content_entry_key_entry_node_flow_entries_flow_entry_group_line_lined_entries_lined_entry_lined_group_nested_plain_group)]
+#[cycle(content)]
 fn lined_entries(
     w: Writer,
     deck: &[u8],
@@ -232,7 +232,7 @@ fn lined_entries(
 }
 
 // The n entries from a cursor on, on one line.
-#[cycle(content_entry_key_entry_node_flow_entries_flow_entry_group_line_lined_entries_lined_entry_lined_group_nested_plain_group)]
+#[cycle(content)]
 fn flow_entries(
     w: Writer,
     deck: &[u8],
@@ -264,7 +264,7 @@ fn flow_entries(
 }
 
 // An entry on a line of its own, the last one or not.
-#[cycle(content_entry_key_entry_node_flow_entries_flow_entry_group_line_lined_entries_lined_entry_lined_group_nested_plain_group)]
+#[cycle(content)]
 fn lined_entry(
     w: Writer,
     deck: &[u8],
@@ -290,7 +290,7 @@ fn lined_entry(
 }
 
 // What stands before the item or the value of an entry on a line of its own: the key of a pair, and a space.
-#[cycle(content_entry_key_entry_node_flow_entries_flow_entry_group_line_lined_entries_lined_entry_lined_group_nested_plain_group)]
+#[cycle(content)]
 fn entry_key(
     w: Writer,
     deck: &[u8],
@@ -315,7 +315,7 @@ fn entry_key(
 }
 
 // An entry: an item, or a key and its value. The key is not asked of `entry_key`: that would have two callers then, and be a call of its own.
-#[cycle(content_entry_key_entry_node_flow_entries_flow_entry_group_line_lined_entries_lined_entry_lined_group_nested_plain_group)]
+#[cycle(content)]
 fn flow_entry(
     w: Writer,
     deck: &[u8],
@@ -340,7 +340,7 @@ fn flow_entry(
 }
 
 // A node on its line: its properties, its content, what ends it. The one caller of `content`, so that the compiler needs no copy of the node for it.
-#[cycle(content_entry_key_entry_node_flow_entries_flow_entry_group_line_lined_entries_lined_entry_lined_group_nested_plain_group)]
+#[cycle(content)]
 pub fn line(
     w: Writer,
     deck: &[u8],
@@ -366,7 +366,7 @@ pub fn line(
 }
 
 // The node at a cursor, on its line.
-#[cycle(content_entry_key_entry_node_flow_entries_flow_entry_group_line_lined_entries_lined_entry_lined_group_nested_plain_group)]
+#[cycle(content)]
 fn entry_node(
     w: Writer,
     deck: &[u8],

@@ -1,16 +1,12 @@
-
+-- What falls at each call of the cycle: 16 times the deck that is left, and a rank; and the loops' invariants.
 use lib.ListN.{length}
 use Prim.Native.Nat.{◌+◌, ◌*◌, ◌-◌}
 use mathlib.Core.Bool.{true}
 use Rattle.terms.specs.Terms.{settings_in}
 use Rattle.pen.specs.Pen.{pen}
-use Rattle.flow.proofs.Laws.{Going, flow_runs}
+use Rattle.flow.proofs.Laws.{Going, flow_runs, lined_runs}
 use Rattle.flow.specs.Hushed.{trees_in, Hushed}
-use mathlib.Core.Bool.{true}
-use Rattle.terms.specs.Terms.{settings_in}
-use Rattle.pen.specs.Pen.{pen}
-use Rattle.flow.proofs.Laws.{Going, lined_runs}
-use Rattle.flow.proofs.+content_entry_key_entry_node_flow_entries_flow_entry_group_line_lined_entries_lined_entry_lined_group_nested_plain_group.Given as goal
+use Rattle.flow.proofs.+content.Given as goal
 
 abbrev pub decreases-content : goal.decreases-content
 decreases-content l = 16 * (length l.deck.now - l.x.place) + 4

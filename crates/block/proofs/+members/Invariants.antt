@@ -1,10 +1,10 @@
-
+-- What falls at each call of the cycle: 16 times the deck that is left, and a rank; and the loops' invariants.
 use lib.ListN.{length}
 use Prim.Native.Nat.{◌+◌, ◌*◌, ◌-◌}
 use Rattle.terms.specs.Terms.{settings_in}
 use Rattle.pen.specs.Pen.{pen}
 use Rattle.block.proofs.Laws.{Rowing}
-use Rattle.block.proofs.+put_dash_put_dashed_put_key_put_members_put_question_put_row_put_rows_put_under_put_value.Given as goal
+use Rattle.block.proofs.+members.Given as goal
 
 abbrev pub decreases-put_dash : goal.decreases-put_dash
 decreases-put_dash l = 16 * (length l.deck.now - l.c.at) + 10

@@ -1,53 +1,16 @@
-
 use Prim.Native.Nat.{◌-◌}
 use native.Mathlib.Omega.{arith}
 use Rattle.definition.specs.Pen.{mark}
 use Rattle.pen.specs.Draws.{of-byte}
-use Rattle.flow.specs.Ready.{after-drawn}
+use Rattle.flow.specs.Ready.{after-drawn, at-cursor}
 use Rattle.layout.specs.Value.{value-bare, value-below, value-beside}
-use Rattle.layout.specs.Calm.{calm-drawn, calm-further, in-line}
-use Rattle.block.proofs.Laws.{dash-included, dash-block, dash-plain}
+use Rattle.layout.specs.Calm.{calm-drawn, calm-further, in-line, calm-after, calm-inside}
+use Rattle.block.proofs.Laws.{dash-included, dash-block, dash-plain, deeper, dashed-on, dashed-under, key-explicit, key-inline, members-rows, key-below-block, key-below-line, pair_row-is, item-row, start, step, stop, under_whole, value-included, value-block, value-plain}
 use Rattle.spot.specs.Good.{spot-good, few-spot}
-use mathlib.Core.Path.{sym, ◌∙◌}
+use mathlib.Core.Path.{sym, ◌∙◌, refl}
 use Rattle.flow.specs.Hushed.{untold-in}
-use native.Mathlib.Omega.{arith}
-use mathlib.Core.Path.{refl}
-use Rattle.definition.specs.Pen.{mark}
-use Rattle.pen.specs.Draws.{of-byte}
-use Rattle.layout.specs.Calm.{calm-drawn, calm-after, calm-inside}
-use Rattle.block.proofs.Laws.{deeper, dashed-on, dashed-under}
-use native.Mathlib.Omega.{arith}
-use Rattle.definition.specs.Pen.{mark}
-use Rattle.pen.specs.Draws.{of-byte}
-use Rattle.layout.specs.Calm.{calm-drawn, calm-after}
-use Rattle.block.proofs.Laws.{key-explicit, key-inline}
-use Rattle.flow.specs.Hushed.{untold-in}
-use native.Mathlib.Omega.{arith}
-use Rattle.block.proofs.Laws.{members-rows}
-use native.Mathlib.Omega.{arith}
-use mathlib.Core.Path.{refl}
-use Rattle.layout.specs.Calm.{calm-drawn, calm-inside, in-line}
-use Rattle.block.proofs.Laws.{deeper, key-below-block, key-below-line}
-use native.Mathlib.Omega.{arith}
-use Rattle.layout.specs.Calm.{calm-drawn, calm-after, calm-further}
-use Rattle.flow.specs.Ready.{at-cursor}
-use Rattle.block.proofs.Laws.{pair_row-is, item-row}
-use Rattle.spot.specs.Good.{spot-good, few-spot}
 use Rattle.block.specs.Rows.{key_part}
-use native.Mathlib.Omega.{arith}
-use Rattle.block.proofs.Laws.{start, step, stop}
-use native.Mathlib.Omega.{arith}
-use Rattle.layout.specs.Calm.{calm-drawn, calm-after}
-use Rattle.block.proofs.Laws.{under_whole}
-use native.Mathlib.Omega.{arith}
-use mathlib.Core.Path.{refl}
-use Rattle.flow.specs.Ready.{after-drawn}
-use Rattle.layout.specs.Value.{value-bare, value-below, value-beside}
-use Rattle.layout.specs.Calm.{calm-inside, in-line}
-use Rattle.block.proofs.Laws.{deeper, value-included, value-block, value-plain}
-use Rattle.spot.specs.Good.{spot-good, few-spot}
-use Rattle.flow.specs.Hushed.{untold-in}
-use Rattle.block.proofs.+put_dash_put_dashed_put_key_put_members_put_question_put_row_put_rows_put_under_put_value.Goals as goal
+use Rattle.block.proofs.+members.Goals as goal
 
 pub put_dash-put_include-requires : goal.put_dash-put_include-requires
 put_dash-put_include-requires t c = let p = calm-drawn c.requires.0 (of-byte mark _ c.byte-w1.ensures) in let r = p.ready in let g = spot-good _ _ _ r.here r.deck-small c.requires.1 in (r.out-small, r.here, r.deck-small, omega (arith, g.2, r.deck-small))

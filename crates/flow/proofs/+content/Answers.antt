@@ -1,67 +1,16 @@
-
 use Prim.Native.Nat.{◌-◌}
 use borrow.Fn.PlainCycle.{is}
 use native.Mathlib.Omega.{arith}
-use Rattle.flow.proofs.Laws.{content-null, content-words, content-alias, content-grouped, grouped-deeper, few-grouped}
-use Rattle.flow.specs.Ready.{inside}
-use Rattle.flow.proofs.Hushes.{hushed-grouped}
+use Rattle.flow.proofs.Laws.{content-null, content-words, content-alias, content-grouped, grouped-deeper, few-grouped, key-emits, no_key, start, flow-step, flow-stop, entry-emits, group-lined, group-plain, line-whole-is, keyed-at, mark-small, lined-step, lined-stop, entry_read, lined-entry-whole, after-byte, lined-whole, group-in, deeper-is, depth_small, plain-whole}
+use Rattle.flow.specs.Ready.{inside, further, at-cursor, after, left-of, after-drawn, kept-length}
+use Rattle.flow.proofs.Hushes.{hushed-grouped, hushed-lead, hushed-node, hushed-first, hushed-rest, hushed-last, quiet_is}
 use borrow.Author.Rules.{rules}
 use mathlib.Core.Bool.{true, false}
-use native.Mathlib.Omega.{arith}
-use Rattle.flow.proofs.Laws.{key-emits, no_key}
-use Rattle.flow.proofs.Hushes.{hushed-lead}
-use borrow.Author.Rules.{rules}
-use native.Mathlib.Omega.{arith}
 use Rattle.joints.specs.Line.{line_of}
-use Rattle.flow.specs.Ready.{further, at-cursor}
 use Rattle.spot.specs.Good.{spot-good, few-spot}
-use Rattle.flow.proofs.Hushes.{hushed-node}
-use borrow.Author.Rules.{rules}
-use native.Mathlib.Omega.{arith}
-use Rattle.flow.specs.Ready.{after}
-use Rattle.flow.proofs.Laws.{start, flow-step, flow-stop}
-use Rattle.flow.proofs.Hushes.{hushed-first, hushed-rest}
-use borrow.Author.Rules.{rules}
-use native.Mathlib.Omega.{arith}
-use Rattle.flow.specs.Ready.{after, further}
-use Rattle.flow.proofs.Laws.{key-emits, no_key, entry-emits}
-use Rattle.flow.proofs.Hushes.{hushed-lead, hushed-last}
-use borrow.Author.Rules.{rules}
-use native.Mathlib.Omega.{arith}
-use Rattle.flow.specs.Ready.{left-of}
-use Rattle.flow.proofs.Laws.{group-lined, group-plain}
-use Rattle.flow.proofs.Hushes.{quiet_is}
-use borrow.Author.Rules.{rules}
-use Rattle.flow.proofs.Laws.{line-whole-is, keyed-at, mark-small}
-use native.Mathlib.Omega.{arith}
-use Rattle.flow.specs.Ready.{after-drawn}
-use borrow.Author.Rules.{rules}
-use native.Mathlib.Omega.{arith}
-use mathlib.Core.Bool.{true}
-use Rattle.flow.proofs.Laws.{start, lined-step, lined-stop}
 use mathlib.Core.Path.{refl}
-use borrow.Author.Rules.{rules}
-use Rattle.flow.specs.Ready.{after, after-drawn, further}
-use native.Mathlib.Omega.{arith}
-use Rattle.flow.proofs.Laws.{entry_read, lined-entry-whole}
-use Rattle.spot.specs.Good.{spot-good, few-spot}
 use Rattle.flow.specs.Hushed.{untold, untold-in}
-use borrow.Author.Rules.{rules}
-use Rattle.flow.specs.Ready.{after}
-use Rattle.flow.proofs.Laws.{after-byte}
-use Rattle.flow.specs.Ready.{kept-length}
-use native.Mathlib.Omega.{arith}
-use Rattle.flow.proofs.Laws.{lined-whole}
-use borrow.Author.Rules.{rules}
-use native.Mathlib.Omega.{arith}
-use Rattle.flow.proofs.Laws.{group-in, deeper-is, depth_small}
-use borrow.Author.Rules.{rules}
-use Rattle.flow.specs.Ready.{after}
-use Rattle.flow.proofs.Laws.{after-byte}
-use native.Mathlib.Omega.{arith}
-use Rattle.flow.proofs.Laws.{plain-whole}
-use borrow.Author.Rules.{rules}
-use Rattle.flow.proofs.+content_entry_key_entry_node_flow_entries_flow_entry_group_line_lined_entries_lined_entry_lined_group_nested_plain_group.Goals as goal
+use Rattle.flow.proofs.+content.Goals as goal
 
 pub content-nested-requires : goal.content-nested-requires
 content-nested-requires t c = let q = c.decreases in let r = c.requires.0 in let g = c.requires.1 in let l = grouped-deeper _ false c.args.x _ g c.in-Sequence.is in (omega (arith, q, l, g.within), (inside r _ l g.within, few-grouped false c.args.x _ c.requires.2 c.in-Sequence.is, hushed-grouped _ _ _ false c.args.x _ c.in-Sequence.is c.requires.3))
