@@ -157,13 +157,13 @@ not-false : (b : Bool) → not b ≡ false → b ≡ true
 not-false true e = refl
 not-false false e = sym e
 
-pub ready_by : {deck pool out : ℕ} {w : Walk} {b : Bool} → b ≡ is_ready deck pool out w → not b ≡ false → Ready deck pool out w
-ready_by {deck} {pool} {out} {w} {b} e h = is-ready deck pool out w (sym e ∙ not-false b h)
+pub ready_by : {deck pool out : ℕ} {w : Walk} {b : Bool} → b ≡ is_ready deck pool out w → b ≡ true → Ready deck pool out w
+ready_by {deck} {pool} {out} {w} {b} e h = is-ready deck pool out w (sym e ∙ h)
 
 pub unready-stayed :
-    (deck pool out : Bytes) (w : Walk) (b : Bool) (r : Made) → b ≡ is_ready (length deck) (length pool) (length out) w → not b ≡ true
+    (deck pool out : Bytes) (w : Walk) (b : Bool) (r : Made) → b ≡ is_ready (length deck) (length pool) (length out) w → b ≡ false
     → r ≡ record { change = no_change; next = w } → (r ≡ made_at deck pool out w) × (out ≡ out_after deck pool out w)
-unready-stayed deck pool out w b r e h q = stayed deck pool out w r (step-unready deck pool out w (sym e ∙ not-true b h)) q
+unready-stayed deck pool out w b r e h q = stayed deck pool out w r (step-unready deck pool out w (sym e ∙ h)) q
 
 pub none-stayed :
     (deck pool out : Bytes) (w : Walk) (f : Found) (r : Made) → Finds deck (record { at = w.at }) f → f.present ≡ 0
@@ -171,10 +171,10 @@ pub none-stayed :
 none-stayed deck pool out w f r t h q = stayed deck pool out w r (step-none deck pool out w (ap (λ (x : Found). x.present) (sym (t.told pool)) ∙ h)) q
 
 pub file-stepped :
-    (deck pool out to : Bytes) (w : Walk) (b : Bool) (f : Found) (r : Made) → b ≡ is_ready (length deck) (length pool) (length out) w → not b ≡ false
+    (deck pool out to : Bytes) (w : Walk) (b : Bool) (f : Found) (r : Made) → b ≡ is_ready (length deck) (length pool) (length out) w → b ≡ true
     → Finds deck (record { at = w.at }) f → (f.present ≡ 0 → ⊥)
     → (r ≡ (file_step deck pool out w.start f).made) × (to ≡ (file_step deck pool out w.start f).out) → (r ≡ made_at deck pool out w) × (to ≡ out_after deck pool out w)
 file-stepped deck pool out to w b f r e h t n q =
     let z : f ≡ found_at deck pool (record { at = w.at }) = t.told pool in
-    let s = step-file deck pool out w (sym e ∙ not-false b h) (λ y. n (ap (λ (x : Found). x.present) z ∙ y)) in
+    let s = step-file deck pool out w (sym e ∙ h) (λ y. n (ap (λ (x : Found). x.present) z ∙ y)) in
     stepped deck pool out to w f r (s ∙ ap (file_step deck pool out w.start) (sym z)) q
