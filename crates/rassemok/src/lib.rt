@@ -143,16 +143,14 @@ fn settings_of(options: Options) -> Settings
     }
 }
 
-// The calls as C and Rust call them.
-#[unsafe(no_mangle)]
-pub extern "C" fn rassemok_emit_roundtrip(deck: &[u8], pool: &[u8], out: &mut [u8]) -> Answer
+// The calls as C and Rust call them: a null style and settings come as numbers. The crate rassemok_c exports them.
+pub fn rassemok_emit_roundtrip(deck: &[u8], pool: &[u8], out: &mut [u8]) -> Answer
     ensures { outcome_of result out.new [] ≡ outcome emit_roundtrip (lent deck.now pool.now out.old) }
 {
     emit_roundtrip(deck, pool, out)
 }
 
-#[unsafe(no_mangle)]
-pub extern "C" fn rassemok_emit_roundtrip_with(
+pub fn rassemok_emit_roundtrip_with(
     deck: &[u8],
     pool: &[u8],
     out: &mut [u8],
@@ -164,8 +162,7 @@ pub extern "C" fn rassemok_emit_roundtrip_with(
     emit_roundtrip_with(deck, pool, out, style)
 }
 
-#[unsafe(no_mangle)]
-pub extern "C" fn rassemok_emit_roundtrip_all_with(
+pub fn rassemok_emit_roundtrip_all_with(
     deck: &[u8],
     pool: &[u8],
     out: &mut [u8],
@@ -177,8 +174,7 @@ pub extern "C" fn rassemok_emit_roundtrip_all_with(
     emit_roundtrip_all_with(deck, pool, out, style)
 }
 
-#[unsafe(no_mangle)]
-pub extern "C" fn rassemok_emit_roundtrip_dump(
+pub fn rassemok_emit_roundtrip_dump(
     deck: &[u8],
     pool: &[u8],
     out: &mut [u8],
@@ -190,17 +186,15 @@ pub extern "C" fn rassemok_emit_roundtrip_dump(
     emit_roundtrip_dump(deck, pool, out, settings)
 }
 
-#[unsafe(no_mangle)]
-pub extern "C" fn rassemok_local_modified(deck: &[u8], pool: &[u8]) -> Answer
+pub fn rassemok_local_modified(deck: &[u8], pool: &[u8]) -> Answer
     ensures { outcome_of result [] [] ≡ outcome call_local_modified (lent deck.now pool.now []) }
 {
     local_modified(deck, pool)
 }
 
 // Four calls, one after the other: what is decided before, the files and their entries, what is decided after, and zeros where there was no
-// room. No covered code can call it, since it is lent structs.
-#[unsafe(no_mangle)]
-pub extern "C" fn rassemok_collect_changed_include_changes(
+// room.
+pub fn rassemok_collect_changed_include_changes(
     deck: &[u8],
     pool: &[u8],
     out: &mut [u8],

@@ -1,4 +1,3 @@
-
 use Rattle.definition.specs.Settings.{plain_settings}
 use Rattle.definition.specs.Calls.{outcome}
 use Rattle.writing.specs.Written.{written}

@@ -1,4 +1,3 @@
-
 use Rattle.definition.specs.Calls.{outcome}
 use Rattle.writing.specs.Written.{written}
 use Rattle.rassemok.proofs.emit_roundtrip_with.Goals as goal

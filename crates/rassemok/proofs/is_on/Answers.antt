@@ -1,4 +1,3 @@
-
 use Rattle.definition.specs.Settings.{is_on}
 use Rattle.rassemok.proofs.is_on.Goals as goal
 

@@ -1,4 +1,3 @@
-
 use mathlib.Core.Path.{sym, subst, ◌∙◌}
 use mathlib.Core.List.{[]}
 use Rattle.definition.specs.Calls.{outcome, tell_modified}

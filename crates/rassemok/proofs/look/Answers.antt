@@ -1,4 +1,3 @@
-
 use native.Mathlib.Omega.{arith}
 use Rattle.rassemok.proofs.Laws.{not-one-looked, one-looked}
 use Rattle.rassemok.proofs.look.Goals as goal

@@ -1,4 +1,3 @@
-
 use Rattle.definition.specs.Settings.{null_as}
 use Rattle.rassemok.proofs.null_as.Goals as goal
 

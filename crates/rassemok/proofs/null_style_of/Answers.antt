@@ -1,4 +1,3 @@
-
 use borrow.Author.Tests.{eq-eqb, ne_eqb}
 use Rattle.definition.specs.Settings.{null_style_of}
 use Rattle.rassemok.proofs.null_style_of.Goals as goal

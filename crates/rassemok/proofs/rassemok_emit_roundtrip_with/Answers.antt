@@ -1,4 +1,3 @@
-
 use Rattle.rassemok.proofs.rassemok_emit_roundtrip_with.Goals as goal
 
 pub returns : goal.returns

@@ -1,4 +1,3 @@
-
 use Rattle.rassemok.specs.Options.{settings_of}
 use Rattle.rassemok.proofs.settings_of.Goals as goal
 
