@@ -3,12 +3,14 @@
 
 mod frame;
 
-use libc::{STDIN_FILENO, STDOUT_FILENO};
+use input::read_full;
+use std::io;
+use std::io::Write;
 
-fn main() {
-    let mut input = frame::input();
-    let n = io::read_full(STDIN_FILENO, &mut input);
+fn main(rt: HostRuntime) -> io::Result<()> {
+    let mut room = frame::input();
+    let n = read_full(&mut rt.stdin(), &mut room)?;
     let mut out = frame::output();
-    let len = frame::run(&input[..n], &mut out);
-    io::write_all(STDOUT_FILENO, &out[..len]);
+    let len = frame::run(&room[..n], &mut out);
+    rt.stdout().write_all(&out[..len])
 }

@@ -2,20 +2,27 @@
 // has the lines that are expected. The list's rows are the oracle's (oracle/src/leaf_rows.rs); docs/ORACLE.md has their form.
 #![tactic(auto)]
 
+ghost use Rattle.std.specs.Prelude.{◌≡◌, length};
+
 mod asked;
 mod rows;
 mod written;
 
-use libc::{STDIN_FILENO, STDOUT_FILENO};
+use input::read_full;
+use std::io;
 
-fn main() {
-    let mut list = io::large_buffer();
-    let n = io::read_full(STDIN_FILENO, &mut list);
-    if rows::run(&list[..n]) {
-        return;
+// Room for a list.
+fn list_room() -> [u8; 65536]
+    ensures { 65536 ≡ length result }
+{
+    [0; 65536]
+}
+
+fn main(rt: HostRuntime) -> io::Result<()> {
+    let mut list = list_room();
+    let n = read_full(&mut rt.stdin(), &mut list)?;
+    if rows::run(&rt, &list[..n])? {
+        return Ok(());
     }
-    io::write_all(
-        STDOUT_FILENO,
-        b"The list does not end where its last row ends.\n",
-    );
+    println!(rt; "The list does not end where its last row ends.")
 }

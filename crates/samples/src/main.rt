@@ -4,41 +4,37 @@
 
 mod replay;
 
-use libc::STDOUT_FILENO;
+use input::read_full;
 use replay::Tally;
+use std::{env, fs, io};
 
-fn say(n: usize, what: &[u8]) {
-    io::print_decimal(STDOUT_FILENO, n as u64);
-    io::write_all(STDOUT_FILENO, what);
+fn report(rt: &HostRuntime, t: Tally) -> io::Result<()> {
+    let good = t.good;
+    let bad = t.bad;
+    let other = t.other;
+    println!(rt; "{good} as expected, {bad} not, {other} of other calls")
 }
 
-fn report(t: Tally) {
-    say(t.good, b" as expected, ");
-    say(t.bad, b" not, ");
-    say(t.other, b" of other calls\n");
-}
-
-fn replay_all(list: &[u8]) {
+fn replay_all(rt: &HostRuntime, list: &[u8]) -> io::Result<()> {
     if list.len() < 4 {
-        io::write_all(STDOUT_FILENO, b"There is no list.\n");
-        return;
+        return println!(rt; "There is no list.");
     }
     let mut deck = replay::deck_room();
     let mut pool = replay::deck_room();
     let mut out = replay::output_room();
-    report(replay::replay(list, &mut deck, &mut pool, &mut out));
+    report(rt, replay::replay(list, &mut deck, &mut pool, &mut out))
 }
 
-fn main() {
-    let mut name = io::buffer();
-    let n = os::arg(1, &mut name);
-    let fd = os::open_read(&name[..n]);
-    if fd < 0 {
-        os::fail(&name[..n]);
-        return;
+fn main(rt: HostRuntime) -> io::Result<()> {
+    let mut name = env::args(&rt)?;
+    let _program = name.next();
+    match name.next() {
+        Some(path) => {
+            let mut file = fs::open(&rt, path.as_str())?;
+            let mut list = replay::list_room();
+            let m = read_full(&mut file, &mut list)?;
+            replay_all(&rt, &list[..m])
+        }
+        None => replay_all(&rt, b""),
     }
-    let mut list = replay::list_room();
-    let m = io::read_full(fd, &mut list);
-    libc::close(fd);
-    replay_all(&list[..m]);
 }

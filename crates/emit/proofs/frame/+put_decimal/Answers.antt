@@ -1,28 +1,7 @@
--- `put_decimal`: what falls at each call of itself, and what its callees claim.
-use Prim.Native.Nat.{ℕ, ◌<◌}
-use borrow.Fn.PlainCycle.{is, falls, and}
+-- `put_decimal`: the digits before the last are its own, of a number that has one less.
 use native.Mathlib.Omega.{arith}
 use Rattle.emit.proofs.frame.Laws.{no-digits, one-digit, more-digits}
-use Prim.Native.Nat.{ℕ}
 use Rattle.emit.proofs.frame.+put_decimal.Goals as goal
-
-abbrev pub put-decimal-at : ℕ → In 1 put-decimal-kinds.ps
-put-decimal-at t =
-    and 1 put-decimal-kinds.ps (is 1 put-decimal-kinds.ps μ-put-decimal t) put-decimal.Pre
-
-abbrev pub put-decimal-below : ℕ → In 1 put-decimal-kinds.ps
-put-decimal-below t =
-    and 1 put-decimal-kinds.ps (falls 1 put-decimal-kinds.ps ◌<◌ μ-put-decimal t) put-decimal.Pre
-
-abbrev pub put-decimal-claims : ℕ → put-decimal-lts.Claims
-put-decimal-claims t = (
-  digit-reads.Asked,
-  digit-reads.Learnt,
-  put_reads.Asked,
-  put_reads.Learnt,
-  put-decimal-below t,
-  put-decimal.Post,
-)
 
 pub returns-then-most-eq0 : goal.returns-then-most-eq0
 returns-then-most-eq0 t c = (no-digits _ _ _ _ c.if-most-eq0.true, omega arith)

@@ -1,4 +1,3 @@
-
 use mathlib.Core.Path.{ap}
 use Rattle.pen.specs.Pen.{Fields}
 use Rattle.leaf_samples.proofs.written.fresh.Goals as goal
