@@ -1,4 +1,3 @@
-
 use borrow.Author.Tests.{eq-eqb, ne_eqb}
 use Rattle.answers.specs.Admitted.{admit_of}
 use Rattle.answers.proofs.admit.Goals as goal

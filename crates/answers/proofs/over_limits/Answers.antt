@@ -1,4 +1,3 @@
-
 use borrow.Author.Tests.{lt-ltb, le-ltb}
 use Rattle.answers.specs.Limits.{limit_of}
 use Rattle.answers.proofs.over_limits.Goals as goal

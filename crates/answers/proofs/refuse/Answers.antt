@@ -1,4 +1,3 @@
-
 use Rattle.answers.specs.Answer.{refusal}
 use Rattle.answers.proofs.refuse.Goals as goal
 

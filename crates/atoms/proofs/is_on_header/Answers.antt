@@ -1,4 +1,3 @@
-
 use Rattle.atoms.specs.Atoms.{on}
 use borrow.Author.Tests.{eq-eqb, ne_eqb}
 use Rattle.atoms.proofs.is_on_header.Goals as goal

@@ -1,4 +1,3 @@
-
 use Rattle.atoms.proofs.is_tilde_null.Goals as goal
 
 pub returns-then-is_marked : goal.returns-then-is_marked

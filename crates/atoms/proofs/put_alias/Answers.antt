@@ -1,4 +1,3 @@
-
 use Rattle.atoms.proofs.Laws.{starred}
 use Rattle.atoms.proofs.put_alias.Goals as goal
 

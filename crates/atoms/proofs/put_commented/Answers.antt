@@ -1,4 +1,3 @@
-
 use Rattle.atoms.specs.Atoms.{commented}
 use Rattle.definition.specs.Pen.{text}
 use Rattle.pen.specs.Draws.{both, of-puts}

@@ -1,4 +1,3 @@
-
 use Rattle.atoms.specs.Atoms.{on}
 use Rattle.atoms.proofs.Laws.{words-short, with-comment, without-comment}
 use Rattle.atoms.proofs.put_fresh.Goals as goal

@@ -1,4 +1,3 @@
-
 use Rattle.atoms.specs.Atoms.{null_in}
 use Rattle.pen.specs.Pen.{puts}
 use Rattle.atoms.proofs.put_null.Goals as goal

@@ -1,4 +1,3 @@
-
 use Rattle.block.specs.Rows.{opening_of}
 use Rattle.block.proofs.put_opening.Goals as goal
 

@@ -1,4 +1,3 @@
-
 use mathlib.Core.Path.{refl}
 use Rattle.definition.specs.Pen.{space, mark, indent, sign}
 use Rattle.pen.specs.Draws.{both, of-puts, of-byte}

@@ -1,4 +1,3 @@
-
 use mathlib.Core.Path.{refl}
 use Rattle.comments.specs.declared.Entries.TheVariants.{Foots}
 use Rattle.comments.specs.Runs.{run_of, repeated, none-repeated}

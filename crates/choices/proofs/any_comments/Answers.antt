@@ -1,4 +1,3 @@
-
 use Rattle.choices.proofs.Laws.{of-items}
 use Rattle.choices.proofs.any_comments.Goals as goal
 

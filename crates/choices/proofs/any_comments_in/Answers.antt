@@ -1,4 +1,3 @@
-
 use Rattle.choices.proofs.Laws.{of-pairs}
 use Rattle.choices.proofs.any_comments_in.Goals as goal
 

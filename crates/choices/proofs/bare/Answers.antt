@@ -1,4 +1,3 @@
-
 use Rattle.choices.specs.Choices.{bare_in}
 use Rattle.choices.proofs.bare.Goals as goal
 

@@ -1,4 +1,3 @@
-
 use Rattle.choices.specs.Choices.{bare_root_in}
 use Rattle.choices.proofs.bare_root.Goals as goal
 

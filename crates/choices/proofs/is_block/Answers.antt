@@ -1,4 +1,3 @@
-
 use Rattle.choices.specs.Choices.{block_in}
 use Rattle.choices.proofs.is_block.Goals as goal
 

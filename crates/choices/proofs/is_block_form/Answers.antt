@@ -1,4 +1,3 @@
-
 use Rattle.definition.specs.Walk.{is_block_form}
 use Rattle.choices.proofs.is_block_form.Goals as goal
 

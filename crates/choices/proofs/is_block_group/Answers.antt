@@ -1,4 +1,3 @@
-
 use Rattle.atoms.specs.Atoms.{on}
 use Rattle.choices.specs.Choices.{block_group}
 use Rattle.choices.proofs.is_block_group.Goals as goal

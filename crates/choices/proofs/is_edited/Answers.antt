@@ -1,4 +1,3 @@
-
 use Rattle.choices.specs.Choices.{edited_in}
 use Rattle.choices.proofs.is_edited.Goals as goal
 

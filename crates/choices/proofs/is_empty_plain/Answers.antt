@@ -1,4 +1,3 @@
-
 use Rattle.choices.proofs.Laws.{nil-length}
 use Rattle.choices.proofs.is_empty_plain.Goals as goal
 

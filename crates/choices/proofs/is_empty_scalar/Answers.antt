@@ -1,4 +1,3 @@
-
 use Rattle.choices.specs.Choices.{empty_in}
 use Rattle.choices.proofs.is_empty_scalar.Goals as goal
 

@@ -1,4 +1,3 @@
-
 use Rattle.choices.specs.Choices.{explicit_in}
 use Rattle.choices.proofs.is_explicit.Goals as goal
 

@@ -1,4 +1,3 @@
-
 use Rattle.choices.proofs.is_explicit_scalar.Goals as goal
 
 pub returns-then-is_marked : goal.returns-then-is_marked

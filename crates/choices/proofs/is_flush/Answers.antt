@@ -1,4 +1,3 @@
-
 use Rattle.choices.specs.Choices.{flush_in}
 use Rattle.choices.proofs.is_flush.Goals as goal
 

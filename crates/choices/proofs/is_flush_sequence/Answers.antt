@@ -1,4 +1,3 @@
-
 use Rattle.choices.proofs.is_flush_sequence.Goals as goal
 
 pub returns-then-is_sequence : goal.returns-then-is_sequence

@@ -1,4 +1,3 @@
-
 use mathlib.Core.Path.{refl}
 use Rattle.parts.specs.Props.{has_held}
 use Rattle.choices.proofs.is_held.Goals as goal

@@ -1,4 +1,3 @@
-
 use mathlib.Core.Path.{refl}
 use Rattle.atoms.specs.Atoms.{on}
 use Rattle.choices.specs.Choices.{included_in}

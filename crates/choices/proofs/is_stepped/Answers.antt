@@ -1,4 +1,3 @@
-
 use Rattle.choices.proofs.is_stepped.Goals as goal
 
 pub returns-then-is_either : goal.returns-then-is_either

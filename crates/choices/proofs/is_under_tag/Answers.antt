@@ -1,4 +1,3 @@
-
 use Rattle.choices.proofs.is_under_tag.Goals as goal
 
 pub returns-then-is_tagged : goal.returns-then-is_tagged

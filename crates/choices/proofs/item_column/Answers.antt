@@ -1,4 +1,3 @@
-
 use native.Mathlib.Omega.{arith}
 use Rattle.choices.specs.Choices.{item_column_in}
 use Rattle.choices.proofs.item_column.Goals as goal

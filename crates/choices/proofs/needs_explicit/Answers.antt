@@ -1,4 +1,3 @@
-
 use Rattle.choices.specs.Choices.{needs_in}
 use Rattle.choices.proofs.needs_explicit.Goals as goal
 

@@ -1,4 +1,3 @@
-
 use Rattle.choices.specs.Choices.{on_dash_line_in}
 use Rattle.choices.proofs.on_dash_line.Goals as goal
 

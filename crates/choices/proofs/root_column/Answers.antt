@@ -1,4 +1,3 @@
-
 use native.Mathlib.Omega.{arith}
 use Rattle.choices.specs.Choices.{root_column_in}
 use Rattle.choices.proofs.root_column.Goals as goal

@@ -1,4 +1,3 @@
-
 use mathlib.Core.Path.{refl}
 use native.Mathlib.Omega.{arith}
 use Rattle.choices.proofs.Laws.{found, passed, last, none}

@@ -1,4 +1,3 @@
-
 use Prim.Native.Nat.{◌<◌, ◌≤◌}
 use lib.ListN.{length}
 use Rattle.choices.proofs.Laws.{Same}

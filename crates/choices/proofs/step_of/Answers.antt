@@ -1,4 +1,3 @@
-
 use native.Mathlib.Omega.{arith}
 use Rattle.definition.specs.Settings.{step_of}
 use borrow.Author.Tests.{eq-eqb, ne_eqb}

@@ -1,4 +1,3 @@
-
 use native.Mathlib.Omega.{arith}
 use Rattle.choices.specs.Choices.{value_column_in}
 use Rattle.choices.proofs.value_column.Goals as goal

@@ -1,4 +1,3 @@
-
 use mathlib.Core.Path.{sym, ◌∙◌}
 use Rattle.definition.specs.Deck.{head_of}
 use Rattle.node.specs.Total.{comment_at}

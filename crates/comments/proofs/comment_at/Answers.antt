@@ -1,4 +1,3 @@
-
 use Rattle.comments.proofs.comment_at.Goals as goal
 
 pub returns : goal.returns

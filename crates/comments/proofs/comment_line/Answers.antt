@@ -1,4 +1,3 @@
-
 use Rattle.definition.specs.Walk.{comment_line}
 use Rattle.definition.specs.Pen.{remark, space, newline, indent}
 use Rattle.pen.specs.Draws.{both, of-puts, of-byte}

@@ -1,4 +1,3 @@
-
 use Rattle.definition.specs.Deck.{is_below}
 use Rattle.comments.proofs.is_below.Goals as goal
 

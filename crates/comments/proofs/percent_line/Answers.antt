@@ -1,4 +1,3 @@
-
 use Rattle.comments.specs.Runs.{percent}
 use Rattle.definition.specs.Pen.{directive, space, newline}
 use Rattle.pen.specs.Draws.{both, of-puts, of-byte}

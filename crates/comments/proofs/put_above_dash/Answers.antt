@@ -1,4 +1,3 @@
-
 use mathlib.Core.Path.{sym, ◌∙◌}
 use Rattle.definition.specs.Walk.{above_dash}
 use Rattle.definition.specs.Deck.{layout_of}

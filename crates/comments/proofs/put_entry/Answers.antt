@@ -1,4 +1,3 @@
-
 use Rattle.comments.specs.Runs.{entry}
 use Rattle.comments.proofs.put_entry.Goals as goal
 

@@ -1,4 +1,3 @@
-
 use mathlib.Core.Path.{refl, ◌∙◌}
 use native.Mathlib.Omega.{arith}
 use Rattle.comments.proofs.Laws.{turn, done}

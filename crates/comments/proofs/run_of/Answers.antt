@@ -1,4 +1,3 @@
-
 use Rattle.comments.specs.Runs.{run_of}
 use Rattle.comments.proofs.run_of.Goals as goal
 

@@ -1,4 +1,3 @@
-
 use Rattle.comments.specs.Runs.{stride}
 use native.Mathlib.Omega.{arith}
 use Rattle.comments.proofs.stride_of.Goals as goal

@@ -1,4 +1,3 @@
-
 use Rattle.node.specs.Total.{text_of}
 use Rattle.comments.proofs.text_of.Goals as goal
 

@@ -1,4 +1,3 @@
-
 use Rattle.definition.specs.Deck.{marked}
 use Rattle.deck.proofs.is_marked.Goals as goal
 

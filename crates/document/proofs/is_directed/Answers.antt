@@ -1,4 +1,3 @@
-
 use Rattle.document.proofs.is_directed.Goals as goal
 
 pub returns-then-is_included : goal.returns-then-is_included

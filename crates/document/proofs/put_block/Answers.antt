@@ -1,4 +1,3 @@
-
 use Rattle.layout.specs.Calm.{calm-drawn}
 use Rattle.document.specs.Root.{root-calm}
 use Rattle.document.proofs.Laws.{block-whole}

@@ -1,4 +1,3 @@
-
 use mathlib.Core.Path.{sym, ◌∙◌}
 use Rattle.definition.specs.Pen.{mark}
 use Rattle.document.specs.Pieces.{bom_in}

@@ -1,4 +1,3 @@
-
 use Rattle.definition.specs.Document.{dashes}
 use Rattle.definition.specs.Pen.{newline}
 use Rattle.pen.specs.Pen.{puts, ink}

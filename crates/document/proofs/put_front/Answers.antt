@@ -1,4 +1,3 @@
-
 use Rattle.pen.specs.Draws.{draws-yes, draws-no}
 use Rattle.document.specs.Pieces.{front_in}
 use Rattle.document.proofs.put_front.Goals as goal

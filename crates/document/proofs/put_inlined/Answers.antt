@@ -1,4 +1,3 @@
-
 use Rattle.layout.specs.Calm.{in-line}
 use native.Mathlib.Omega.{arith}
 use Rattle.document.proofs.Laws.{line-whole}

@@ -1,4 +1,3 @@
-
 use mathlib.Core.Path.{sym, ◌∙◌}
 use Rattle.document.specs.Pieces.{start_in}
 use Rattle.pen.specs.Draws.{draws-yes, draws-no, stays}

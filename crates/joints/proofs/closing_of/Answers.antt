@@ -1,4 +1,3 @@
-
 use Rattle.joints.specs.Entries.{closing}
 use Rattle.joints.proofs.closing_of.Goals as goal
 

@@ -1,4 +1,3 @@
-
 use Rattle.joints.proofs.Laws.{in-key, out-of-key}
 use Rattle.joints.proofs.key_in.Goals as goal
 

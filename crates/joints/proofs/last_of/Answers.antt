@@ -1,4 +1,3 @@
-
 use Rattle.joints.proofs.Laws.{last-value, last-item}
 use Rattle.joints.proofs.last_of.Goals as goal
 

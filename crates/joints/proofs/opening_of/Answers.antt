@@ -1,4 +1,3 @@
-
 use Rattle.joints.specs.Entries.{opening}
 use Rattle.joints.proofs.opening_of.Goals as goal
 

@@ -1,4 +1,3 @@
-
 use Rattle.atoms.specs.Atoms.{on}
 use Rattle.definition.specs.Pen.{nothing}
 use Rattle.pen.specs.Pen.{ink, puts}

@@ -1,4 +1,3 @@
-
 use Rattle.joints.proofs.Laws.{colon-alias, colon-other}
 use Rattle.joints.proofs.put_colon.Goals as goal
 

@@ -1,4 +1,3 @@
-
 use Rattle.pen.specs.Draws.{draws-yes, draws-no, stays, of-byte}
 use Rattle.definition.specs.Pen.{sign, mark}
 use Rattle.joints.proofs.put_comma.Goals as goal

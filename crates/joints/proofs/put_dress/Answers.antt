@@ -1,4 +1,3 @@
-
 use borrow.Author.Tests.{eq-eqb, ne_eqb}
 use Rattle.joints.specs.Line.{dressed}
 use Rattle.pen.specs.Draws.{draws-yes, draws-no, stays}

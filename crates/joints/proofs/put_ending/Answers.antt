@@ -1,4 +1,3 @@
-
 use borrow.Author.Tests.{eq-eqb, ne_eqb}
 use Rattle.joints.specs.Line.{ending}
 use Rattle.node.specs.Total.{kept_of}

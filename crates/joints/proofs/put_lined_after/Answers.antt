@@ -1,4 +1,3 @@
-
 use Rattle.joints.specs.Entries.{lined_after}
 use Rattle.definition.specs.Pen.{space, newline}
 use Rattle.pen.specs.Draws.{both, of-byte}

@@ -1,4 +1,3 @@
-
 use Rattle.joints.specs.Line.{rank_of}
 use Rattle.joints.proofs.rank_of.Goals as goal
 

@@ -1,4 +1,3 @@
-
 use Rattle.flow.specs.Ready.{after-drawn}
 use Rattle.layout.proofs.Laws.{below-whole}
 use Rattle.flow.specs.Hushed.{untold-in}

@@ -1,4 +1,3 @@
-
 use Rattle.layout.proofs.Laws.{included-whole}
 use Rattle.layout.proofs.put_include.Goals as goal
 

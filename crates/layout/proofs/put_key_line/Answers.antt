@@ -1,4 +1,3 @@
-
 use Rattle.layout.proofs.Laws.{key-line-whole}
 use Rattle.definition.specs.Pen.{mark}
 use Rattle.flow.specs.Ready.{after-drawn}

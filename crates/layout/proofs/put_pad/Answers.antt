@@ -1,4 +1,3 @@
-
 use Rattle.layout.proofs.Laws.{pad-one, pad-more}
 use Rattle.layout.proofs.put_pad.Goals as goal
 

@@ -1,4 +1,3 @@
-
 use native.Mathlib.Omega.{arith}
 use mathlib.Core.Path.{refl}
 use Rattle.node.specs.Ends.{left_after}

@@ -1,4 +1,3 @@
-
 use Rattle.parts.specs.Lines.{below_open}
 use Rattle.comments.specs.Runs.{repeated}
 use Rattle.definition.specs.Pen.{space, indent}

@@ -1,4 +1,3 @@
-
 use Rattle.parts.specs.Lines.{colon_open}
 use Rattle.comments.specs.Runs.{repeated}
 use Rattle.node.specs.Total.{kept_of}

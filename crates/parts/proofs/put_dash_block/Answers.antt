@@ -1,4 +1,3 @@
-
 use Rattle.parts.specs.Lines.{dash_open}
 use Rattle.node.specs.Total.{kept_of}
 use Rattle.pen.specs.Draws.{both}

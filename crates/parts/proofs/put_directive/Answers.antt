@@ -1,4 +1,3 @@
-
 use Rattle.parts.proofs.Laws.{no-directive, some-directive}
 use native.Mathlib.Omega.{arith}
 use Rattle.parts.proofs.put_directive.Goals as goal

@@ -1,4 +1,3 @@
-
 use Rattle.parts.specs.Lines.{directed}
 use Rattle.definition.specs.Pen.{space, newline}
 use Rattle.pen.specs.Draws.{both, of-byte}

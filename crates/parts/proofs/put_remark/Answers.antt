@@ -1,4 +1,3 @@
-
 use Rattle.parts.proofs.Laws.{no-remark, some-remark}
 use Rattle.parts.proofs.put_remark.Goals as goal
 

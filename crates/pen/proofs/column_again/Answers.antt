@@ -1,4 +1,3 @@
-
 use mathlib.Core.Path.{◌≡◌}
 use native.Mathlib.Omega.{arith}
 use Rattle.pen.specs.Pen.{column_over}

@@ -1,4 +1,3 @@
-
 use mathlib.Core.Path.{◌≡◌}
 use Prim.Native.Nat.{◌<◌, ◌^◌}
 use lib.ListN.{replicate}

@@ -1,4 +1,3 @@
-
 use borrow.Author.Rules.{rules}
 use Prim.Native.Nat.{◌-◌}
 use lib.ListN.{drop_of_length-le}

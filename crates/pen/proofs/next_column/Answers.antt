@@ -1,4 +1,3 @@
-
 use native.Mathlib.Omega.{arith}
 use borrow.Author.Tests.{eq-eqb, ne_eqb}
 use Rattle.pen.proofs.next_column.Goals as goal

@@ -1,4 +1,3 @@
-
 use borrow.Author.Tests.{eq-eqb, ne_eqb, lt-ltb, le-ltb}
 use Rattle.plan.specs.Plan.{answer_after}
 use Rattle.plan.proofs.answer_after.Goals as goal

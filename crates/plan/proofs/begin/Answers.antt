@@ -1,4 +1,3 @@
-
 use Rattle.plan.specs.Plan.{plan_of, planned, early}
 use native.Mathlib.Omega.{arith}
 use Rattle.plan.proofs.Laws.{deck-small}

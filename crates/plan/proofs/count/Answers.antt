@@ -1,4 +1,3 @@
-
 use native.Mathlib.Omega.{arith}
 use Rattle.definition.specs.Change.{collect}
 use borrow.Author.Tests.{lt-ltb, le-ltb}

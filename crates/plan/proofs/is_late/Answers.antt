@@ -1,4 +1,3 @@
-
 use borrow.Author.Tests.{eq-eqb, ne_eqb}
 use Rattle.plan.specs.Plan.{is_late}
 use Rattle.plan.proofs.is_late.Goals as goal

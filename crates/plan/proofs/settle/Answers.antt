@@ -1,4 +1,3 @@
-
 use native.Mathlib.Omega.{arith}
 use Rattle.plan.specs.Plan.{settled_of, cleared_of}
 use Rattle.plan.proofs.settle.Goals as goal

@@ -1,4 +1,3 @@
-
 use Rattle.plan.specs.Plan.{early}
 use Rattle.plan.proofs.stop.Goals as goal
 

@@ -1,4 +1,3 @@
-
 use mathlib.Core.Path.{refl}
 use Rattle.plan.specs.Plan.{nowhere}
 use Rattle.plan.proofs.zeros.Goals as goal

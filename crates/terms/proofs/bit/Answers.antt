@@ -1,4 +1,3 @@
-
 use mathlib.Core.Path.{sym}
 use native.Mathlib.Omega.{arith}
 use Rattle.definition.specs.Settings.{is_on}

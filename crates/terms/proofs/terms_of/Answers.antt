@@ -1,4 +1,3 @@
-
 use Rattle.terms.proofs.Laws.{told_back}
 use Rattle.terms.proofs.terms_of.Goals as goal
 

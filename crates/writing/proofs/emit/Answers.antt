@@ -1,4 +1,3 @@
-
 use mathlib.Core.Path.{subst}
 use Rattle.agree.specs.Accepted.{Accepted}
 use Rattle.writing.proofs.Laws.{not-one}

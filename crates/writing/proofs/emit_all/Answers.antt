@@ -1,4 +1,3 @@
-
 use Rattle.writing.proofs.Laws.{begin-at, all-answered}
 use Rattle.writing.proofs.emit_all.Goals as goal
 

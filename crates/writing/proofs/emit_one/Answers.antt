@@ -1,4 +1,3 @@
-
 use Rattle.writing.proofs.Laws.{begin-at, one-answered}
 use Rattle.writing.proofs.emit_one.Goals as goal
 

@@ -1,4 +1,3 @@
-
 use mathlib.Core.Path.{refl}
 use Rattle.writing.proofs.Laws.{tells-over, tells-fits}
 use Rattle.writing.proofs.settle.Goals as goal

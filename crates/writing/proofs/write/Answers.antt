@@ -1,4 +1,3 @@
-
 use Rattle.answers.specs.Admitted.{Says, said}
 use Rattle.told.specs.Outcome.{lent}
 use Rattle.writing.proofs.Laws.{refused-so}

@@ -1,4 +1,3 @@
-
 use Rattle.pen.proofs.Kept.{says, same-counts, other-column}
 use Rattle.pen.proofs.Writer.at_column.Goals as goal
 

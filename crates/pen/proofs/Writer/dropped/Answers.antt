@@ -1,4 +1,3 @@
-
 use lib.Seq.{set_out}
 use Rattle.pen.specs.Pen.{unput}
 use Rattle.pen.proofs.Texts.{paged}

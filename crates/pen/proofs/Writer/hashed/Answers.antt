@@ -1,4 +1,3 @@
-
 use mathlib.Core.Path.{ap, ◌∙◌}
 use Rattle.pen.specs.Pen.{Pen, puts, put1}
 use Rattle.pen.proofs.Laws.{hashed-nothing, hashed-text}

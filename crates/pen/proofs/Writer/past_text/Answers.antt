@@ -1,4 +1,3 @@
-
 use mathlib.Core.Path.{◌∙◌}
 use Rattle.pen.proofs.Texts.{past-kept, past-none}
 use Rattle.pen.proofs.Writer.past_text.Goals as goal

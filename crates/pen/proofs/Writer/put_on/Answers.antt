@@ -1,4 +1,3 @@
-
 use Rattle.pen.proofs.Kept.{says, more-len, other_edge}
 use Rattle.pen.proofs.Writer.put_on.Goals as goal
 

@@ -1,4 +1,3 @@
-
 use Rattle.pen.proofs.Kept.{says, other-len, other_edge}
 use Rattle.pen.proofs.Writer.put_to.Goals as goal
 

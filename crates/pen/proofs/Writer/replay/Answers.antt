@@ -1,4 +1,3 @@
-
 use mathlib.Core.Path.{ap, ◌∙◌}
 use Prim.Native.Nat.{ℕ, ◌+◌}
 use Rattle.pen.specs.Pen.{Pen, page, fields, rawed, with_raw}

@@ -1,4 +1,3 @@
-
 use Rattle.definition.specs.Base.{spaces}
 use Rattle.pen.proofs.Writer.spaces.Goals as goal
 

@@ -1,4 +1,3 @@
-
 use Rattle.pen.specs.Pen.{fields}
 use mathlib.Core.Path.{sym, ◌∙◌}
 use native.Mathlib.Omega.{arith}

@@ -1,4 +1,3 @@
-
 use Rattle.pen.specs.Pen.{with_inline}
 use Rattle.pen.proofs.Kept.{says, same-state, other-inline}
 use Rattle.pen.proofs.Writer.with_inline.Goals as goal

@@ -1,4 +1,3 @@
-
 use mathlib.Core.Path.{ap}
 use mathlib.Core.List.{[]}
 use Rattle.pen.specs.Pen.{Fields, page, with_key}

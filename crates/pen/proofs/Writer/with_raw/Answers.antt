@@ -1,4 +1,3 @@
-
 use Rattle.pen.specs.Pen.{with_raw}
 use Rattle.pen.proofs.Kept.{says, same-state, other-raw}
 use Rattle.pen.proofs.Writer.with_raw.Goals as goal

@@ -1,4 +1,3 @@
-
 use mathlib.Core.Path.{refl}
 use Rattle.definition.specs.Settings.{is_on}
 use Rattle.terms.specs.Terms.{settings_in}

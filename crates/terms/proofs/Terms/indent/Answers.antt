@@ -1,4 +1,3 @@
-
 use mathlib.Core.Path.{refl}
 use Rattle.terms.specs.Terms.{settings_in}
 use Rattle.terms.proofs.Terms.indent.Goals as goal

@@ -1,4 +1,3 @@
-
 use mathlib.Core.Path.{sym}
 use Rattle.terms.specs.Terms.{settings_in}
 use Rattle.terms.proofs.Laws.{tilde-told}
