@@ -6,29 +6,26 @@ use crate::encode::NullStyle;
 /// What a module of theorems opens with: the names it uses, and short forms of the records.
 pub fn header() -> &'static str {
     "-- Made by oracle/definitions; not kept.
-use mathlib.Core.Path.{_≡_, refl}
-use Prim.Native.Nat.{ℕ}
-use mathlib.Core.Bool.{Bool, true, false}
-use mathlib.Core.List.{List, [], _∷_, _++_}
-use mathlib.Core.Option.{Option, none, some}
-use Rattle·definition.specs.Base.{Bytes}
-use Rattle·definition.specs.Utf8.{well_formed}
-use Rattle·definition.specs.Quote.{double_body, single_body, single_capable, single_quotable}
-use Rattle·definition.specs.Fold.{fold, has_breakable}
-use Rattle·definition.specs.Block.{use_literal_block, block_header, block_body}
-use Rattle·definition.specs.Settings.{plain_settings}
-use Rattle·definition.specs.Scalar.{quoted, quoted_folded, must_quote}
-use Rattle·definition.specs.ReadBack.{read_double, read_single, read_literal}
-use Rattle·definition.specs.Calls.{Lent, Outcome, outcome, emit_roundtrip, emit_roundtrip_with, emit_roundtrip_all_with, emit_roundtrip_dump, collect_changed_include_changes, call_local_modified}
-use Rattle·definition.specs.Program.{program}
-use Rattle·definition.specs.Opened.{opened}
-use Rattle·definition.specs.declared.NullStyle.{NullStyle}
-use Rattle·definition.specs.declared.NullStyle.the-variants.{Null, Empty, Tilde}
-use Rattle·definition.specs.declared.Settings.{Settings}
-use Rattle·definition.specs.declared.Change.{Change}
+use Rattle.std.specs.Prelude.{◌≡◌, ℕ, Bool, true, false, List, [], ◌∷◌, ◌++◌, refl}
+use Rattle.std.proofs.Math.Option.{Option, none, some}
+use Rattle.definition.specs.Base.{Bytes}
+use Rattle.definition.specs.Utf8.{well_formed}
+use Rattle.definition.specs.Quote.{double_body, single_body, single_capable, single_quotable}
+use Rattle.definition.specs.Fold.{fold, has_breakable}
+use Rattle.definition.specs.Block.{use_literal_block, block_header, block_body}
+use Rattle.definition.specs.Settings.{plain_settings}
+use Rattle.definition.specs.Scalar.{quoted, quoted_folded, must_quote}
+use Rattle.definition.specs.ReadBack.{read_double, read_single, read_literal}
+use Rattle.definition.specs.Calls.{Lent, Outcome, outcome, emit_roundtrip, emit_roundtrip_with, emit_roundtrip_all_with, emit_roundtrip_dump, collect_changed_include_changes, call_local_modified}
+use Rattle.definition.specs.Program.{program}
+use Rattle.definition.specs.Opened.{opened}
+use Rattle.definition.specs.declared.NullStyle.{NullStyle}
+use Rattle.definition.specs.declared.NullStyle.TheVariants.{Null, Empty, Tilde}
+use Rattle.definition.specs.declared.Settings.{Settings}
+use Rattle.definition.specs.declared.Change.{Change}
 
 abbrev set : NullStyle → Bool → Bool → ℕ → Bool → Bool → ℕ → Settings
-set n q e i l o w = record { «null_style» = n; «indent_sequences» = q; «explicit_end» = e; indent = i; indentless = l; «single_quotes» = o; width = w }
+set n q e i l o w = record { null_style = n; indent_sequences = q; explicit_end = e; indent = i; indentless = l; single_quotes = o; width = w }
 
 abbrev ch : ℕ → ℕ → ℕ → Change
 ch i s l = record { id = i; start = s; length = l }

@@ -102,7 +102,7 @@ fn write_crate(folder: &Path, theorems: &[Theorem]) -> io::Result<()> {
 /// The theorems that the toolchain refuses. Anything else that it says is a failure of the comparison itself.
 pub fn check<'a>(scratch: &Path, theorems: &'a [Theorem]) -> Result<Vec<&'a Theorem>, String> {
     let run = Command::new("rt")
-        .arg("check")
+        .args(["all", "check"])
         .current_dir(scratch)
         .output()
         .map_err(|error| format!("rt cannot be run: {error}."))?;

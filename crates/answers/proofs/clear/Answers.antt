@@ -1,4 +1,3 @@
-use Prim.Native.Nat.{◌-◌}
 use mathlib.Core.Path.{refl}
 use Rattle.answers.proofs.Zeros.{none-cleared, one_more, cleared}
 use Rattle.answers.proofs.clear.Goals as goal

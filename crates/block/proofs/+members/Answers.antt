@@ -1,4 +1,3 @@
-use Prim.Native.Nat.{◌-◌}
 use native.Mathlib.Omega.{arith}
 use Rattle.definition.specs.Pen.{mark}
 use Rattle.pen.specs.Draws.{of-byte}

@@ -1,5 +1,4 @@
 -- `blocks::line_end` meets its contract.
-use Prim.Native.Nat.{◌-◌}
 use native.Mathlib.Omega.{arith}
 use Rattle.pen.specs.Runs.{run-start, run_on}
 use Rattle.blocks.proofs.line_end.Goals as goal

@@ -1,7 +1,5 @@
 -- `blocks::put_lines` meets its contract.
 use mathlib.Core.Path.{◌∙◌}
-use mathlib.Core.Bool.{true}
-use Prim.Native.Nat.{◌-◌}
 use lib.ListN.{drop_of_length-le}
 use native.Mathlib.Omega.{arith}
 use Rattle.definition.specs.Block.{indented}

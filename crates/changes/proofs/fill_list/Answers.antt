@@ -1,6 +1,5 @@
 -- `changes::fill_list`: a turn, and the end.
-use Rattle.std.proofs.Common.{arith, ap, ◌∙◌, length}
-use Rattle.std.proofs.Math.ListN.{length-set}
+use Rattle.std.proofs.Common.{arith, ◌∙◌}
 use Rattle.changes.proofs.Turns.{on-again, at-end}
 use Rattle.changes.proofs.fill_list.Goals as goal
 

@@ -1,5 +1,4 @@
 -- `copy` stays inside the output.
-use Prim.Native.Nat.{◌-◌}
 use native.Mathlib.Omega.{arith}
 use lib.ListN.{length-set}
 use Rattle.coded.proofs.copy.Goals as goal

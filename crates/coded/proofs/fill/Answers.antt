@@ -1,5 +1,4 @@
 -- `fill` ends, and stays inside the output.
-use Prim.Native.Nat.{◌-◌}
 use native.Mathlib.Omega.{arith}
 use lib.ListN.{length-set}
 use Rattle.coded.proofs.fill.Goals as goal

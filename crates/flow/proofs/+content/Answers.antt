@@ -1,5 +1,3 @@
-use Prim.Native.Nat.{◌-◌}
-use borrow.Fn.PlainCycle.{is}
 use native.Mathlib.Omega.{arith}
 use Rattle.flow.proofs.Laws.{content-null, content-words, content-alias, content-grouped, grouped-deeper, few-grouped, key-emits, no_key, start, flow-step, flow-stop, entry-emits, group-lined, group-plain, line-whole-is, keyed-at, mark-small, lined-step, lined-stop, entry_read, lined-entry-whole, after-byte, lined-whole, group-in, deeper-is, depth_small, plain-whole}
 use Rattle.flow.specs.Ready.{inside, further, at-cursor, after, left-of, after-drawn, kept-length}

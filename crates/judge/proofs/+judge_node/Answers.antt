@@ -1,6 +1,4 @@
 -- `judge::judge_node` meets its contract.
-use borrow.Fn.PlainCycle.{is}
-use Prim.Native.Nat.{◌-◌}
 use native.Mathlib.Omega.{arith}
 use mathlib.Core.Path.{refl, ◌∙◌}
 use Rattle.judge.proofs.Laws.{node-stop, node-deep, node-go, fits_on, each-stop, each_more, each-done}

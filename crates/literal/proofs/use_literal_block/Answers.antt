@@ -1,5 +1,4 @@
 -- `literal::use_literal_block` meets its contract.
-use borrow.Author.Tests.{not-true, not-false}
 use mathlib.Core.Path.{ap}
 use mathlib.Core.Bool.{not}
 use Rattle.literal.proofs.Laws.{together}

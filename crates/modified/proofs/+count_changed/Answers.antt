@@ -1,5 +1,4 @@
 -- `modified::count_changed` meets its contract.
-use Prim.Native.Nat.{◌-◌}
 use mathlib.Core.Path.{refl}
 use native.Mathlib.Omega.{arith}
 use Rattle.modified.proofs.Going.{going_start, child-less}

@@ -1,5 +1,4 @@
 -- `modified::look` meets its contract.
-use Prim.Native.Nat.{◌-◌}
 use native.Mathlib.Omega.{arith}
 use Rattle.modified.proofs.Going.{child-less}
 use Rattle.modified.proofs.Laws.{one_less, look-found, look-done}

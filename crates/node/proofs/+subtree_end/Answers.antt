@@ -1,5 +1,4 @@
 -- `node::subtree_end` meets its contract.
-use Prim.Native.Nat.{◌-◌}
 use native.Mathlib.Omega.{arith}
 use mathlib.Core.Path.{refl, ◌∙◌}
 use Rattle.node.specs.Total.{tree_at}

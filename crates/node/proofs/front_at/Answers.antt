@@ -1,5 +1,4 @@
 -- `node::front_at` meets its contract.
-use Prim.Native.Nat.{◌-◌}
 use mathlib.Core.Path.{refl, ◌∙◌}
 use native.Mathlib.Omega.{arith}
 use Rattle.node.proofs.Laws.{small-fits, small-none, small-step, front-stop, head_more, front-done, front-is}

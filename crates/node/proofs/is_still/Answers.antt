@@ -1,5 +1,4 @@
 -- `node::is_still` meets its contract.
-use Prim.Native.Nat.{◌-◌}
 use native.Mathlib.Omega.{arith}
 use Rattle.node.proofs.Looking.{start, falls, further, at-comment, done}
 use Rattle.node.proofs.is_still.Goals as goal

@@ -1,5 +1,4 @@
 use borrow.Author.Rules.{rules}
-use Prim.Native.Nat.{◌-◌}
 use lib.ListN.{drop_of_length-le}
 use Rattle.pen.specs.Pen.{column_over}
 use Rattle.pen.proofs.Texts.{column-on}

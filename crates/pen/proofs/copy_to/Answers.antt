@@ -1,7 +1,6 @@
 -- `pen::copy_to` meets its contract.
 use borrow.Author.Rules.{rules}
 use mathlib.Core.Path.{refl, ◌∙◌}
-use Prim.Native.Nat.{◌-◌}
 use native.Mathlib.Omega.{arith}
 use lib.ListN.{drop_of_length-le, length-set}
 use Rattle.pen.proofs.Texts.{store-start, stored}

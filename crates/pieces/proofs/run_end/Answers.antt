@@ -1,6 +1,4 @@
 -- `pieces::run_end` meets its contract.
-use borrow.Author.Tests.{not-false}
-use Prim.Native.Nat.{◌-◌}
 use Rattle.pen.specs.Runs.{run-start, run_on}
 use Rattle.pieces.proofs.run_end.Goals as goal
 

@@ -1,7 +1,5 @@
 -- `quoted::ahead` meets its contract.
 use mathlib.Core.Path.{sym, ◌∙◌}
-use mathlib.Core.Bool.{true}
-use Prim.Native.Nat.{◌-◌}
 use native.Mathlib.Omega.{arith}
 use Rattle.quoted.proofs.Folds.{measured-stop, measured-end}
 use Rattle.quoted.proofs.ahead.Goals as goal

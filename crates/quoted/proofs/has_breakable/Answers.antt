@@ -2,9 +2,7 @@
 use Rattle.quoted.proofs.Folds.{breaks-here, breaks-on}
 use Rattle.definition.specs.Fold.{breakable_in, has_breakable}
 use lib.ListN.{drop_of_length-le}
-use mathlib.Core.Bool.{true}
 use borrow.Author.Rules.{rules}
-use Prim.Native.Nat.{◌-◌}
 use mathlib.Core.Path.{sym, ◌∙◌}
 use Rattle.quoted.proofs.has_breakable.Goals as goal
 

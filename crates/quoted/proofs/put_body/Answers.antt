@@ -1,6 +1,5 @@
 -- `quoted::put_body` meets its contract.
 use mathlib.Core.Path.{◌∙◌}
-use Prim.Native.Nat.{◌-◌}
 use lib.ListN.{drop_of_length-le}
 use native.Mathlib.Omega.{arith}
 use Rattle.laws.specs.Pieces.{body}

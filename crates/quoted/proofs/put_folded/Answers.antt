@@ -1,7 +1,5 @@
 -- `quoted::put_folded` meets its contract.
 use mathlib.Core.Path.{refl, ◌∙◌}
-use mathlib.Core.Bool.{true}
-use Prim.Native.Nat.{◌-◌}
 use lib.ListN.{drop_of_length-le}
 use native.Mathlib.Omega.{arith}
 use Rattle.laws.specs.Folded.{folded_of}

@@ -1,5 +1,4 @@
 -- `rassemok::rassemok_collect_changed_include_changes`: the four calls, one after another. The list keeps its length.
-use Rattle.std.proofs.Common.{sym}
 use Rattle.changes.specs.Filled.{started}
 use Rattle.rassemok.proofs.Collects.{composed}
 use Rattle.rassemok.proofs.rassemok_collect_changed_include_changes.Goals as goal

@@ -4,7 +4,6 @@ use mathlib.Core.Bool.{not}
 use Rattle.scalar.specs.Tests.{some_at, refused_at}
 use Rattle.scalar.proofs.Laws.{found, passed, quotable-by}
 use lib.ListN.{drop_of_length-le}
-use Prim.Native.Nat.{◌-◌}
 use mathlib.Core.Path.{sym, ap, ◌∙◌}
 use Rattle.scalar.proofs.quotable.Goals as goal
 

@@ -1,6 +1,6 @@
 -- `scalar::too_long` meets its contract.
 use Rattle.scalar.proofs.Laws.{size-length}
-use borrow.Author.Tests.{lt-ltb, le-ltb, not-true, not-false}
+use borrow.Author.Tests.{lt-ltb, le-ltb}
 use Rattle.scalar.proofs.too_long.Goals as goal
 
 pub will_fold-requires : goal.will_fold-requires

@@ -3,7 +3,6 @@ use borrow.Author.Rules.{rules}
 use Rattle.scalar.specs.Tests.{some_at, unsafe_at}
 use Rattle.scalar.proofs.Laws.{found, passed, unsafe-by}
 use lib.ListN.{drop_of_length-le}
-use Prim.Native.Nat.{◌-◌}
 use mathlib.Core.Path.{sym, ◌∙◌}
 use Rattle.scalar.proofs.unsafe_in_flow.Goals as goal
 

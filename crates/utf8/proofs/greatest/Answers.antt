@@ -1,5 +1,4 @@
 -- `utf8::greatest` meets its contract.
-use Prim.Native.Nat.{◌-◌}
 use native.Mathlib.Omega.{arith}
 use Rattle.utf8.proofs.Chars.{most-next, none-most}
 use Rattle.utf8.proofs.greatest.Goals as goal

@@ -1,5 +1,5 @@
 -- `utf8::mark_runs` meets its contract. The loop's invariant: the table is right from block `left` on.
-use Prim.Native.Nat.{◌+◌, ◌*◌, ◌-◌, ◌≤◌}
+use Prim.Native.Nat.{◌+◌, ◌*◌, ◌≤◌}
 use mathlib.Core.Path.{◌≡◌}
 use lib.ListN.{length}
 use Rattle.utf8.specs.Runs.{Runs}

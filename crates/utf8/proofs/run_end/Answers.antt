@@ -1,7 +1,5 @@
 -- `utf8::run_end` meets its contract. The loop's invariant: the run from where it stands ends where the run from the start does; and past
-use Prim.Native.Nat.{◌-◌}
 use mathlib.Core.Path.{sym, ◌∙◌}
-use mathlib.Core.Bool.{true}
 use native.Mathlib.Omega.{arith}
 use Rattle.utf8.proofs.Runs.{run_none, run_more, run-middle, char-in, start_is, run_by}
 use Rattle.utf8.proofs.run_end.Goals as goal

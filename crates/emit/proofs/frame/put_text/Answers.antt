@@ -1,5 +1,4 @@
 -- `put_text`: after i turns the first i bytes of the text are added.
-use Prim.Native.Nat.{◌-◌}
 use native.Mathlib.Omega.{arith}
 use mathlib.Core.Path.{refl}
 use lib.ListN.{length-set}
