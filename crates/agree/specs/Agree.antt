@@ -6,7 +6,7 @@ use native.Mathlib.Omega.{arith}
 use Rattle.std.proofs.Math.Bool.{true, false}
 use mathlib.Core.List.{List, [], ◌∷◌}
 use Rattle.std.proofs.Math.ListN.{length}
-use Rattle.definition.specs.Base.{Bytes, if◌then◌else◌}
+use Rattle.definition.specs.Base.{Bytes, when◌then◌else◌}
 use Rattle.definition.specs.Records.{kind_at, record_at, past}
 use Rattle.definition.specs.Tree.{Kept, Brought, Node}
 use Rattle.definition.specs.Deck.{Read, fault, got, bind, Whole, keep, bring, is_node, own_or_on, read_whole, node_of, read_items, read_pairs, read_node, read_trees, read_deck, none_kept, none_brought, deepest}
@@ -61,8 +61,8 @@ module _ (deck pool : Bytes) where
           (Fits deck pool (kind_at deck c) (past deck c) (add_to (record_at deck c) c l) (keep pool (record_at deck c) a) (bring pool (record_at deck c) b) →
           Gives (Same deck pool (past deck c) (head_from deck n (add_to (record_at deck c) c l) (past deck c)))
           (read_whole deck pool n (kind_at deck c) (keep pool (record_at deck c) a) (bring pool (record_at deck c) b) (past deck c))) →
-          Gives (Same deck pool c (if w then headed deck l c else head_from deck n (add_to (record_at deck c) c l) (next_of deck c)))
-          (if w then got (record { kept = a; brought = b; own = record_at deck c; place = c.at }) (past deck c)
+          Gives (Same deck pool c (when w then headed deck l c else head_from deck n (add_to (record_at deck c) c l) (next_of deck c)))
+          (when w then got (record { kept = a; brought = b; own = record_at deck c; place = c.at }) (past deck c)
           else read_whole deck pool n (kind_at deck c) (keep pool (record_at deck c) a) (bring pool (record_at deck c) b) (past deck c))
       own true e s ih =
           let o = past_after last c s in
@@ -74,7 +74,7 @@ module _ (deck pool : Bytes) where
           (Fits deck pool (kind_at deck c) (past deck c) (add_to (record_at deck c) c l) (keep pool (record_at deck c) a) (bring pool (record_at deck c) b) →
           Gives (Same deck pool (past deck c) (head_from deck n (add_to (record_at deck c) c l) (past deck c)))
           (read_whole deck pool n (kind_at deck c) (keep pool (record_at deck c) a) (bring pool (record_at deck c) b) (past deck c))) →
-          Gives (Same deck pool c (if is_node (record_at deck c) then headed deck l c else head_from deck n (add_to (record_at deck c) c l) (next_of deck c)))
+          Gives (Same deck pool c (when is_node (record_at deck c) then headed deck l c else head_from deck n (add_to (record_at deck c) c l) (next_of deck c)))
           (bind r (own_or_on pool (λ a' b' d. read_whole deck pool n (kind_at deck c) a' b' d) a b c.at))
       go bad ih = gives-fault
       go (good s) ih = own (is_node (record_at deck c)) refl s ih
@@ -161,8 +161,8 @@ module _ (deck pool : Bytes) where
     where
       go :
           (b : Bool) → ((j : Cursor) → Gives (λ ts e. trees_from deck pool n j ≡ ts) (read_trees deck pool n j)) →
-          Gives (λ ts e. (if b then [] else (tree_at deck pool c).value ∷ trees_from deck pool n (tree_at deck pool c).next) ≡ ts)
-          (if b then got [] c else bind (read_node deck pool deepest c) (λ x j. bind (read_trees deck pool n j) (λ xs e. got (x ∷ xs) e)))
+          Gives (λ ts e. (when b then [] else (tree_at deck pool c).value ∷ trees_from deck pool n (tree_at deck pool c).next) ≡ ts)
+          (when b then got [] c else bind (read_node deck pool deepest c) (λ x j. bind (read_trees deck pool n j) (λ xs e. got (x ∷ xs) e)))
       go true ih = gives-got refl
       go false ih = gives-bind (tree-gives deepest c (omega arith)) (λ x j s. gives-bind (ih j) (λ xs e t. gives-got (rw (s.same, t))))
 

@@ -6,7 +6,7 @@ use Prim.Native.Nat.{ℕ, zero, suc, ◌+◌, ◌<◌, ◌≤◌}
 use native.Mathlib.Omega.{arith}
 use mathlib.Core.List.{List, [], ◌∷◌, ◌++◌}
 use Rattle.std.proofs.lemmas.Bool.{eqb-false}
-use Rattle.definition.specs.Base.{Bytes, if◌then◌else◌, within}
+use Rattle.definition.specs.Base.{Bytes, when◌then◌else◌, within}
 use Rattle.definition.specs.Records.{kind_at, record_of, record_at, size_of, past, text_at, include_at, heading_at, trailer_at, lines_at}
 use Rattle.definition.specs.Tree.{Kept, Brought}
 use Rattle.definition.specs.Deck.{marked, no_lines, keep, bring, is_node, in_order, none_kept, none_brought}
@@ -40,7 +40,7 @@ module _ {A : Type 0} (e : Cursor → A) (s : ℕ) where
 
   run_more :
       (n : ℕ) (f c : Cursor) → ((n ≡ 0 → ⊥) → f.at + span s n ≡ c.at) →
-      run_from e s (n + 1) (if eqb n 0 then c else f) ≡ run_from e s n f ++ e c ∷ []
+      run_from e s (n + 1) (when eqb n 0 then c else f) ≡ run_from e s n f ++ e c ∷ []
   unfolding run_from
   run_more zero f c h = refl
   run_more (suc n) f c h = rw (ne_eqb (suc n) 0 (λ z. absurd (omega arith)), add-one) (run-last (suc n) f c (h (λ z. absurd (omega arith))))
@@ -64,7 +64,7 @@ ready-own : {k s last : ℕ} {c : Cursor} {r : Run} → last ≤ k → Ready k s
 unfolding onto span
 ready-own {k} {s} {last} {c} {r} l y = record { same = λ e. go r.count r.first (ready-ends l y); fresh = λ h. absurd (omega arith) }
   where
-    go : (n : ℕ) (f : Cursor) → ((n ≡ 0 → ⊥) → f.at + span s n ≡ c.at) → (if eqb n 0 then c else f).at + span s (n + 1) ≡ c.at + s
+    go : (n : ℕ) (f : Cursor) → ((n ≡ 0 → ⊥) → f.at + span s n ≡ c.at) → (when eqb n 0 then c else f).at + span s (n + 1) ≡ c.at + s
     go zero f h = omega arith
     go (suc n) f h = let g : f.at + (span s n + s) ≡ c.at = h (λ z. absurd (omega arith)) in rw (ne_eqb (suc n) 0 (λ z. absurd (omega arith)), add-one) (omega arith)
 
@@ -110,7 +110,7 @@ leads : (k : ℕ) → not (within 1 9 k) ≡ false → (1 ≤ k) × (k ≤ 9)
 unfolding within
 leads k e = go (leb 1 k) (leb k 9) refl refl e
   where
-    go : (x y : Bool) → leb 1 k ≡ x → leb k 9 ≡ y → not (if x then y else false) ≡ false → (1 ≤ k) × (k ≤ 9)
+    go : (x y : Bool) → leb 1 k ≡ x → leb k 9 ≡ y → not (when x then y else false) ≡ false → (1 ≤ k) × (k ≤ 9)
     go true true p q e = (leb-true _ _ p, leb-true _ _ q)
     go true false p q e = let z : ◌≡◌ {A = ℕ} 0 1 = cc in absurd (omega arith)
     go false y p q e = let z : ◌≡◌ {A = ℕ} 0 1 = cc in absurd (omega arith)

@@ -5,7 +5,7 @@ use Rattle.std.proofs.Common.{sym, subst, ◌∙◌, arith, eqb-true}
 use Rattle.std.proofs.Math.Bool.{true, false}
 use Rattle.std.proofs.Math.Dec.{eqb}
 use Rattle.std.proofs.lemmas.Bool.{eqb-false}
-use Rattle.definition.specs.Base.{Bytes, if◌then◌else◌}
+use Rattle.definition.specs.Base.{Bytes, when◌then◌else◌}
 use Rattle.definition.specs.Deck.{read_deck}
 use Rattle.definition.specs.Calls.{Lent, Outcome, refused}
 use Rattle.definition.specs.declared.Settings.{Settings}
@@ -35,7 +35,7 @@ unfoldable pub admit_of : Settings → Bytes → Bytes → ℕ → ℕ → Verdi
 admit_of s deck pool room entries =
     let n = limit_of s (length deck) (length pool) room entries in
     let read = verdict_of (read_deck deck pool) in
-    if eqb n 0 then read else verdict.Refused n 0
+    when eqb n 0 then read else verdict.Refused n 0
 
 module _ (s : Settings) (x : Lent) where
   over-says : (n : ℕ) → Limited s x n → (n ≡ 0 → ⊥) → Says s x (verdict.Refused n 0)
@@ -56,7 +56,7 @@ module _ (s : Settings) (x : Lent) where
   unfolding admit_of
   admit-says = go _ (limited s x) (eqb (limit_of s (length x.deck) (length x.pool) (length x.output) (length x.list)) 0) refl
     where
-      go : (n : ℕ) → Limited s x n → (b : Bool) → eqb n 0 ≡ b → Says s x (if b then verdict_of (read_deck x.deck x.pool) else verdict.Refused n 0)
+      go : (n : ℕ) → Limited s x n → (b : Bool) → eqb n 0 ≡ b → Says s x (when b then verdict_of (read_deck x.deck x.pool) else verdict.Refused n 0)
       go n l true e = read-says n l (eqb-true _ _ e) _ refl
       go n l false e = over-says n l (eqb-false _ _ e)
 

@@ -1,15 +1,15 @@
 -- Refusals 1 and 2 by number; 0 where neither has a reason.
 use Rattle.std.specs.Prelude.{◌≡◌, refl, ℕ, ◌<◌, ◌≤◌, Bool, true, false, ◌||◌, ltb, length}
 use Rattle.std.proofs.Common.{arith, ltb-true, ltb-false}
-use Rattle.definition.specs.Base.{if◌then◌else◌}
+use Rattle.definition.specs.Base.{when◌then◌else◌}
 use Rattle.definition.specs.Calls.{Lent}
 use Rattle.definition.specs.declared.Settings.{Settings}
 use Rattle.told.specs.Outcome.{Settled, Small}
 
 unfoldable pub limit_of : Settings → ℕ → ℕ → ℕ → ℕ → ℕ
 limit_of s deck pool output list =
-    if ltb 16 s.indent || ltb 65535 s.width then 1
-    else if ltb 65536 deck || ltb 65536 pool || ltb 1048576 output || ltb 4096 list then 2
+    when ltb 16 s.indent || ltb 65535 s.width then 1
+    else when ltb 65536 deck || ltb 65536 pool || ltb 1048576 output || ltb 4096 list then 2
     else 0
 
 -- what the number says
@@ -29,7 +29,7 @@ limited s x =
   where
     go :
         (a b c d e f : Bool) → ltb 16 s.indent ≡ a → ltb 65535 s.width ≡ b → ltb 65536 (length x.deck) ≡ c → ltb 65536 (length x.pool) ≡ d
-        → ltb 1048576 (length x.output) ≡ e → ltb 4096 (length x.list) ≡ f → Limited s x (if a || b then 1 else if c || d || e || f then 2 else 0)
+        → ltb 1048576 (length x.output) ≡ e → ltb 4096 (length x.list) ≡ f → Limited s x (when a || b then 1 else when c || d || e || f then 2 else 0)
     go true b c d e f i j k l m n = over-1 (λ z. past _ _ i z.indent)
     go false true c d e f i j k l m n = over-1 (λ z. past _ _ j z.width)
     go false false true d e f i j k l m n = over-2 (record { indent = ltb-false _ _ i; width = ltb-false _ _ j }) (λ z. past _ _ k z.deck)

@@ -8,7 +8,7 @@ use mathlib.Core.List.{[], ◌∷◌}
 use mathlib.Core.Option.{none, some}
 use lib.ListN.{length, take, drop, length-drop}
 use lib.Dec.{eqb, ltb}
-use Rattle.definition.specs.Base.{Bytes, if◌then◌else◌}
+use Rattle.definition.specs.Base.{Bytes, when◌then◌else◌}
 use Rattle.definition.specs.Ascii.{'*', '>', '|'}
 use Rattle.definition.specs.Records.{text_at}
 use Rattle.definition.specs.Scalar.{marker_of}
@@ -51,7 +51,7 @@ block-number Double = refl
 block-number Literal = refl
 block-number Folded = refl
 
-pub marker-number : (y : Style) → (if eqb (number_of y) 4 then '>' else '|') ≡ marker_of y
+pub marker-number : (y : Style) → (when eqb (number_of y) 4 then '>' else '|') ≡ marker_of y
 unfolding number_of marker_of
 marker-number Plain = refl
 marker-number Single = refl
@@ -80,7 +80,7 @@ module _ (s : Settings) (p : ℕ) (deck pool : Bytes) (h : Held) (modified : Boo
   unfolding replays held_of on
   aside f d = go (eqb h.at 0) modified (sym is ∙ f)
     where
-      go : (b m : Bool) → (not b && not m) ≡ false → Q ≡ ink s (replays p (if b then none else some (words pool (text_at deck h.at))) m a) P
+      go : (b m : Bool) → (not b && not m) ≡ false → Q ≡ ink s (replays p (when b then none else some (words pool (text_at deck h.at))) m a) P
       go true m z = d
       go false true z = d
       go false false z = cc
@@ -89,7 +89,7 @@ module _ (s : Settings) (p : ℕ) (deck pool : Bytes) (h : Held) (modified : Boo
   unfolding replays held_of ink on
   again f k g d = go (eqb h.at 0) modified (sym is ∙ f)
     where
-      go : (b m : Bool) → (not b && not m) ≡ true → Q ≡ ink s (replays p (if b then none else some (words pool (text_at deck h.at))) m a) P
+      go : (b m : Bool) → (not b && not m) ≡ true → Q ≡ ink s (replays p (when b then none else some (words pool (text_at deck h.at))) m a) P
       go false false z = rw (← k, ← g) d
       go false true z = cc
       go true m z = cc

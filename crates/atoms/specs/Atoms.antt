@@ -1,7 +1,7 @@
 -- What is written of a node without children, from what its head says of it alone.
 use Rattle.std.specs.Prelude.{ℕ, ◌≡◌, refl, Bool, true, false, not, ◌&&◌, [], ◌∷◌, eqb}
 use Rattle.std.proofs.Math.Option.{Option, none, some}
-use Rattle.definition.specs.Base.{Bytes, if◌then◌else◌, is_some}
+use Rattle.definition.specs.Base.{Bytes, when◌then◌else◌, is_some}
 use Rattle.definition.specs.Ascii.{'~'}
 use Rattle.definition.specs.Block.{block_header, block_body}
 use Rattle.definition.specs.Settings.{is_tilde}
@@ -32,7 +32,7 @@ number_of Folded = 4
 
 -- `~` or `null`, from the layout record
 unfoldable pub null_in : Settings → Lines → Bytes
-null_in s l = if marked l.marks 8 && is_tilde s.null_style then '~' ∷ [] else 110 ∷ 117 ∷ 108 ∷ 108 ∷ []
+null_in s l = when marked l.marks 8 && is_tilde s.null_style then '~' ∷ [] else 110 ∷ 117 ∷ 108 ∷ 108 ∷ []
 
 -- a block scalar with an inline comment on its header
 unfoldable pub commented : ℕ → ℕ → ℕ → Option Inline → Bytes → Script
@@ -40,13 +40,13 @@ commented marker i p m t = put text (block_header marker t) >> comment p m >> pu
 
 -- a scalar that is not replayed, from its inline comment alone
 unfoldable pub fresh_in : Bool → Bool → ℕ → ℕ → Option Inline → Bytes → Style → Script
-fresh_in flow key i p m t y = if is_some m && is_block_style y && not flow then commented (marker_of y) i p m t else leaf p flow key t y i
+fresh_in flow key i p m t y = when is_some m && is_block_style y && not flow then commented (marker_of y) i p m t else leaf p flow key t y i
 
 -- an inline comment is there
 pub remark-some : (deck pool : Bytes) (m : Remark) → is_some (remark_of deck pool m) ≡ on m.at
 unfolding on remark_of is_some
 remark-some deck pool m = go (eqb m.at 0)
   where
-    go : (b : Bool) → is_some (if b then none else some (inline_of pool (trailer_at deck m.at))) ≡ not b
+    go : (b : Bool) → is_some (when b then none else some (inline_of pool (trailer_at deck m.at))) ≡ not b
     go true = refl
     go false = refl

@@ -6,7 +6,7 @@ use native.Mathlib.Omega.{arith}
 use mathlib.Core.Bool.{Bool, true, false}
 use lib.ListN.{length}
 use lib.Dec.{eqb}
-use Rattle.definition.specs.Base.{Bytes, if◌then◌else◌}
+use Rattle.definition.specs.Base.{Bytes, when◌then◌else◌}
 use Rattle.definition.specs.Ascii.{SP, '-', '?'}
 use Rattle.definition.specs.Settings.{step_of}
 use Rattle.definition.specs.Tree.{Node, kept}
@@ -127,13 +127,13 @@ module _ (s : Settings) (deck pool : Bytes) where
   -- what stands before the node that was read stands before the tree at its cursor
   before-there :
       (i : ℕ) (pairs lead : Bool) (c : Cursor) (x : Spot) {P Q : Pen} → c.at ≤ length deck → x ≡ spot_at deck c
-      → Draws (if lead then before pairs (kept_in deck pool x) i else nothing) P Q → Draws (if lead then before pairs (kept (node_at deck pool c)) i else nothing) P Q
+      → Draws (when lead then before pairs (kept_in deck pool x) i else nothing) P Q → Draws (when lead then before pairs (kept (node_at deck pool c)) i else nothing) P Q
   unfolding kept node_in
   before-there i pairs lead c x k e d = rw (tree-value deck pool c k, ← e) d
 
   pub pair_row-is :
       (i : ℕ) (pairs lead first : Bool) (c d r : Cursor) (x : Spot) {P₀ P₁ P₂ P₃ : Pen} → c.at ≤ length deck → length deck ≤ 65536 → x ≡ spot_at deck c → pairs ≡ true
-      → Draws (if lead then before pairs (kept_in deck pool x) i else nothing) P₀ P₁
+      → Draws (when lead then before pairs (kept_in deck pool x) i else nothing) P₀ P₁
       → Emits s (key_part s i first (node_in deck pool x)) P₁ P₂ x.place (end_in deck pool x) d (length deck)
       → Emits s (value s i (node_at deck pool d)) P₂ P₃ d.at (next_at deck pool d) r (length deck)
       → Emits s (row_of s deck pool i pairs lead first c) P₀ P₃ c.at (entry_end deck pool pairs c) r (length deck)
@@ -153,7 +153,7 @@ module _ (s : Settings) (deck pool : Bytes) where
 
   pub item-row :
       (i : ℕ) (pairs lead first : Bool) (c r : Cursor) (x : Spot) {P₀ P₁ P₂ : Pen} → c.at ≤ length deck → x ≡ spot_at deck c → pairs ≡ false
-      → Draws (if lead then before pairs (kept_in deck pool x) i else nothing) P₀ P₁
+      → Draws (when lead then before pairs (kept_in deck pool x) i else nothing) P₀ P₁
       → Emits s (dash s i (node_at deck pool c)) P₁ P₂ c.at (next_at deck pool c) r (length deck)
       → Emits s (row_of s deck pool i pairs lead first c) P₀ P₂ c.at (entry_end deck pool pairs c) r (length deck)
   unfolding row_of item_row entry_end last_of
@@ -243,7 +243,7 @@ module _ (s : Settings) (deck pool : Bytes) where
 
   abbrev dash_walk : ℕ → Spot → Bool → Script
   dash_walk i x b =
-      if b then dash_compact (kept_in deck pool x) (i + 2) (members s (i + 2) false (kind_in deck pool x))
+      when b then dash_compact (kept_in deck pool x) (i + 2) (members s (i + 2) false (kind_in deck pool x))
       else dash_block x.place (kept_in deck pool x) (brought_in deck pool x) (item_column s (brought_in deck pool x) i (kind_in deck pool x)) (i + 2) (members s (item_column s (brought_in deck pool x) i (kind_in deck pool x)) true (kind_in deck pool x))
 
   dash-joined : (i : ℕ) (x : Spot) (P : Pen) → ink s (dash_in s deck pool i x) P ≡ ink s (dash_walk i x (on_dash_line (kept_in deck pool x) (brought_in deck pool x) (kind_in deck pool x))) P
@@ -252,7 +252,7 @@ module _ (s : Settings) (deck pool : Bytes) where
     where
       go :
           (b : Bool) →
-          ink s (if b then dash_compact (kept_in deck pool x) (i + 2) (members s (i + 2) false (kind_in deck pool x)) else under_of s deck pool true x (item_column s (brought_in deck pool x) i (kind_in deck pool x)) (i + 2)) P
+          ink s (when b then dash_compact (kept_in deck pool x) (i + 2) (members s (i + 2) false (kind_in deck pool x)) else under_of s deck pool true x (item_column s (brought_in deck pool x) i (kind_in deck pool x)) (i + 2)) P
           ≡ ink s (dash_walk i x b) P
       go true = refl
       go false = refl

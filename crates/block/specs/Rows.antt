@@ -3,7 +3,7 @@ use Rattle.std.specs.Prelude.{◌≡◌, Bool}
 use Rattle.std.proofs.Math.Path.{refl}
 use Prim.Native.Nat.{ℕ, zero, suc, ◌+◌}
 use Rattle.std.proofs.Math.Bool.{true, false}
-use Rattle.definition.specs.Base.{Bytes, if◌then◌else◌}
+use Rattle.definition.specs.Base.{Bytes, when◌then◌else◌}
 use Rattle.definition.specs.Ascii.{'?', ':'}
 use Rattle.definition.specs.Tree.{Node, kept}
 use Rattle.definition.specs.Pen.{Script, ◌>>◌, nothing, indent, sign}
@@ -24,15 +24,15 @@ module _ (s : Settings) where
   explicit_key i k = sign '?' >> key_below s i k >> indent i >> sign ':'
 
   unfoldable pub key_part : ℕ → Bool → Node → Script
-  key_part i first k = if is_explicit first k then explicit_key i k else inline_key k (content s false true i k)
+  key_part i first k = when is_explicit first k then explicit_key i k else inline_key k (content s false true i k)
 
   module _ (deck pool : Bytes) where
     -- an item, and a pair, with what stands before it unless its line is begun already
     unfoldable pub item_row : ℕ → Bool → Cursor → Script
-    item_row i lead c = (if lead then before false (kept (node_at deck pool c)) i else nothing) >> dash s i (node_at deck pool c)
+    item_row i lead c = (when lead then before false (kept (node_at deck pool c)) i else nothing) >> dash s i (node_at deck pool c)
 
     unfoldable pub pair_row : ℕ → Bool → Bool → Cursor → Script
-    pair_row i lead first c = (if lead then before true (kept (node_at deck pool c)) i else nothing) >> key_part i first (node_at deck pool c) >> value s i (node_at deck pool (next_at deck pool c))
+    pair_row i lead first c = (when lead then before true (kept (node_at deck pool c)) i else nothing) >> key_part i first (node_at deck pool c) >> value s i (node_at deck pool (next_at deck pool c))
 
     unfoldable pub row_of : ℕ → Bool → Bool → Bool → Cursor → Script
     row_of i true lead first c = pair_row i lead first c
@@ -73,7 +73,7 @@ module _ (s : Settings) (deck pool : Bytes) where
   -- a block collection after a dash at column i
   unfoldable pub dash_in : ℕ → Spot → Script
   dash_in i x =
-      if on_dash_line (kept_in deck pool x) (brought_in deck pool x) (kind_in deck pool x) then dash_compact (kept_in deck pool x) (i + 2) (members s (i + 2) false (kind_in deck pool x))
+      when on_dash_line (kept_in deck pool x) (brought_in deck pool x) (kind_in deck pool x) then dash_compact (kept_in deck pool x) (i + 2) (members s (i + 2) false (kind_in deck pool x))
       else under_of true x (item_column s (brought_in deck pool x) i (kind_in deck pool x)) (i + 2)
 
 -- the colon of an explicit key

@@ -11,7 +11,7 @@ use borrow.Author.Tests.{eq-eqb, ne_eqb}
 use Rattle.pen.specs.Pen.{Pen, put1, puts, puts-append, and_then}
 use Rattle.pen.specs.Runs.{Run, parted, run_length}
 use Rattle.laws.specs.Tests.{Every, more}
-use Rattle.definition.specs.Base.{Bytes, if◌then◌else◌, spaces}
+use Rattle.definition.specs.Base.{Bytes, when◌then◌else◌, spaces}
 use Rattle.definition.specs.Block.{trailing, trimmed, chomping, indented, beyond, block_header, block_body}
 use Rattle.laws.specs.Trim.{trimmed-take, trailing-break, trailing-other, nothing_left, something-left}
 
@@ -26,14 +26,14 @@ module _ (n : ℕ) (s : Bytes) (i : ℕ) (h : i < length s) where
       rw w (along (λ x a t. a ≡ 10 → puts (indented n true t) (put1 P 10) ≡ puts (indented n fresh x) P) s i h (λ a t e. rw (eq-eqb a 10 e)) e)
 
 -- bytes without a line break
-line-own : (n : ℕ) (fresh : Bool) (x y : Bytes) → Every (λ a. (a ≡ 10 → ⊥)) x → 0 < length x → indented n fresh (x ++ y) ≡ (if fresh then spaces n else []) ++ (x ++ indented n false y)
+line-own : (n : ℕ) (fresh : Bool) (x y : Bytes) → Every (λ a. (a ≡ 10 → ⊥)) x → 0 < length x → indented n fresh (x ++ y) ≡ (when fresh then spaces n else []) ++ (x ++ indented n false y)
 unfolding indented
 line-own n fresh [] y ps h = absurd (omega arith)
 line-own n fresh (a ∷ []) y (more p ps) h = rw (ne_eqb a 10 p)
 line-own n fresh (a ∷ b ∷ x) y (more p ps) h = rw (ne_eqb a 10 p, line-own n false (b ∷ x) y ps (omega arith))
 
 module _ (n : ℕ) (s : Bytes) (i j : ℕ) (r : Run (λ a. (a ≡ 10 → ⊥)) s i j) (h : i < j) where
-  line-run : (fresh : Bool) → indented n fresh (drop i s) ≡ (if fresh then spaces n else []) ++ (take (j - i) (drop i s) ++ indented n false (drop j s))
+  line-run : (fresh : Bool) → indented n fresh (drop i s) ≡ (when fresh then spaces n else []) ++ (take (j - i) (drop i s) ++ indented n false (drop j s))
   line-run fresh =
       ap (indented n fresh) (parted s i j r.on)
       ∙ line-own n fresh (take (j - i) (drop i s)) (drop j s) r.each (rw (run_length (λ a. (a ≡ 10 → ⊥)) s i j r) (omega arith))

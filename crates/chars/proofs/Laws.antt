@@ -4,7 +4,7 @@ use mathlib.Core.Path.{◌≡◌, refl, sym, ◌∙◌}
 use Prim.Native.Nat.{ℕ, ◌≤◌, ◌<◌}
 use native.Mathlib.Omega.{arith}
 use mathlib.Core.Bool.{Bool, true, false, not, false≢true}
-use Rattle.definition.specs.Base.{if◌then◌else◌, within}
+use Rattle.definition.specs.Base.{when◌then◌else◌, within}
 use Rattle.definition.specs.Char.{non_printable}
 use Rattle.laws.specs.Tests.{is_within, below-it, above-it}
 use Rattle.laws.specs.Computed.{below, all, apply}
@@ -20,8 +20,8 @@ same-is false true e = absurd (false≢true e)
 same-is false false e = refl
 
 -- the numbers from l to h are all printable, or all not
-pub low : (l h : ℕ) (b : Bool) → below (λ k. if within l h k then same b (non_printable k) else true) 0xa0 ≡ true → (n : ℕ) → l ≤ n → n ≤ h → n < 0xa0 → b ≡ non_printable n
-low l h b t n p q r = same-is b (non_printable n) (apply (within l h n) (same b (non_printable n)) (all (λ k. if within l h k then same b (non_printable k) else true) 0xa0 t n r) (is_within l h n p q))
+pub low : (l h : ℕ) (b : Bool) → below (λ k. when within l h k then same b (non_printable k) else true) 0xa0 ≡ true → (n : ℕ) → l ≤ n → n ≤ h → n < 0xa0 → b ≡ non_printable n
+low l h b t n p q r = same-is b (non_printable n) (apply (within l h n) (same b (non_printable n)) (all (λ k. when within l h k then same b (non_printable k) else true) 0xa0 t n r) (is_within l h n p q))
 
 pub wide : (n : ℕ) → 0xa0 ≤ n → n < 0xfffe → false ≡ non_printable n
 wide n l h = sym (wide-print n l ∙ below-it 0xfffe 0xffff n h)

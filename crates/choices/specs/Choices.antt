@@ -5,7 +5,7 @@ use Rattle.std.proofs.Math.Path.{refl}
 use Rattle.std.proofs.Common.{sym, arith, ne_eqb}
 use Rattle.std.proofs.Math.Bool.{true, false, not}
 use Rattle.std.proofs.Math.Option.{none, some}
-use Rattle.definition.specs.Base.{Bytes, if◌then◌else◌, is_nil, is_some}
+use Rattle.definition.specs.Base.{Bytes, when◌then◌else◌, is_nil, is_some}
 use Rattle.definition.specs.Settings.{step_of, is_empty_style}
 use Rattle.definition.specs.Tree.{Node}
 use Rattle.definition.specs.Deck.{words, marked, layout_of, source_of}
@@ -147,7 +147,7 @@ module _ (deck pool : Bytes) where
   unfolding included kept_of origin_of is_some included_in on
   included-is l = go (eqb l.origin.at 0)
     where
-      go : (b : Bool) → is_some (if b then none else some (source_of pool (include_at deck l.origin.at))) ≡ not b
+      go : (b : Bool) → is_some (when b then none else some (source_of pool (include_at deck l.origin.at))) ≡ not b
       go true = refl
       go false = refl
 
@@ -162,20 +162,20 @@ bare_in s pool l m b = empty_in pool b && not (on m.at) && (not (edited_in l b) 
 
 -- a sequence stands at its key's column
 unfoldable pub flush_in : Settings → Lines → Held → ℕ → Bool
-flush_in s l tag i = if s.indent_sequences then s.indentless && not (has_held tag) else leb l.column i
+flush_in s l tag i = when s.indent_sequences then s.indentless && not (has_held tag) else leb l.column i
 
 unfoldable pub value_column_in : Settings → Lines → Held → ℕ → Body → ℕ
-value_column_in s l tag i b = if sequence_in b && flush_in s l tag i then i else i + step_of s
+value_column_in s l tag i b = when sequence_in b && flush_in s l tag i then i else i + step_of s
 
 unfoldable pub item_column_in : Settings → Held → Held → ℕ → Body → ℕ
-item_column_in s tag anchor i b = if (has_held tag || has_held anchor) && not (sequence_in b) then i + step_of s else i + 2
+item_column_in s tag anchor i b = when (has_held tag || has_held anchor) && not (sequence_in b) then i + step_of s else i + 2
 
 unfoldable pub on_dash_line_in : Lines → Held → Held → Remark → Body → Bool
 on_dash_line_in l tag anchor m b =
-    not (has_held tag || has_held anchor) && (if sequence_in b then marked l.marks 4 else not (on m.at || marked l.marks 2))
+    not (has_held tag || has_held anchor) && (when sequence_in b then marked l.marks 4 else not (on m.at || marked l.marks 2))
 
 unfoldable pub root_column_in : Settings → Lines → Held → Body → ℕ
-root_column_in s l tag b = if marked l.marks 8 && has_held tag && not (sequence_in b && s.indentless) then step_of s else 0
+root_column_in s l tag b = when marked l.marks 8 && has_held tag && not (sequence_in b && s.indentless) then step_of s else 0
 
 unfoldable pub bare_root_in : Settings → Lines → Remark → Held → Held → Body → Bool
 bare_root_in s l m tag anchor b =
@@ -192,8 +192,8 @@ module _ (s : Settings) (deck pool : Bytes) (l : Lead) where
     where
       go :
           (q d f g : Bool) →
-          (if not q then i + step_of s else if d then (if f then i else i + step_of s) else if g then i else i + step_of s)
-          ≡ (if q && (if d then f else g) then i else i + step_of s)
+          (when not q then i + step_of s else when d then (when f then i else i + step_of s) else when g then i else i + step_of s)
+          ≡ (when q && (when d then f else g) then i else i + step_of s)
       go true true f g = refl
       go true false f g = refl
       go false d f g = refl

@@ -4,7 +4,7 @@ use Rattle.std.proofs.Math.Path.{refl, ap}
 use Rattle.std.proofs.Common.{sym, ◌∙◌}
 use Prim.Native.Nat.{ℕ, zero, suc, ◌+◌, ◌≤◌}
 use Rattle.std.proofs.Math.Bool.{true, false, not}
-use Rattle.definition.specs.Base.{Bytes, if◌then◌else◌}
+use Rattle.definition.specs.Base.{Bytes, when◌then◌else◌}
 use Rattle.definition.specs.Ascii.{'%'}
 use Rattle.definition.specs.Records.{heading_at}
 use Rattle.definition.specs.Deck.{head_of}
@@ -36,8 +36,8 @@ percent t = put directive ('%' ∷ t) >> newline
 -- what is written of the record at a cursor
 unfoldable pub entry : Bytes → Bytes → Entries → ℕ → Cursor → Script
 entry deck pool Heads i c = comment_line i (text_of deck pool c)
-entry deck pool Over i c = if (comment_at deck pool c).below then nothing else comment_line i (text_of deck pool c)
-entry deck pool Under i c = if (comment_at deck pool c).below then comment_line i (text_of deck pool c) else nothing
+entry deck pool Over i c = when (comment_at deck pool c).below then nothing else comment_line i (text_of deck pool c)
+entry deck pool Under i c = when (comment_at deck pool c).below then comment_line i (text_of deck pool c) else nothing
 entry deck pool Foots i c = comment_line i (text_of deck pool c)
 entry deck pool Directives i c = percent (text_of deck pool c)
 
@@ -75,7 +75,7 @@ module _ (deck pool : Bytes) (i : ℕ) (s : Settings) where
   -- head comments that pass a test
   heads-drawn :
       (e : Entries) (f : Head → Bool) → stride e ≡ 6
-      → ((c : Cursor) (p : Pen) → ink s (entry deck pool e i c) p ≡ ink s (if f (comment_at deck pool c) then comment_line i (comment_at deck pool c).text else nothing) p)
+      → ((c : Cursor) (p : Pen) → ink s (entry deck pool e i c) p ≡ ink s (when f (comment_at deck pool c) then comment_line i (comment_at deck pool c).text else nothing) p)
       → (n : ℕ) (c : Cursor) (p : Pen) → ink s (comment_lines i (heads_that f (run_from (comment_at deck pool) 6 n c))) p ≡ ink s (entries deck pool e i n c) p
   unfolding ink puts nothing comment_lines heads_that run_from entries
   heads-drawn e f k h zero c p = refl
@@ -83,13 +83,13 @@ module _ (deck pool : Bytes) (i : ℕ) (s : Settings) where
       let d : Cursor = record { at = c.at + stride e } in
       let same : d ≡ record { at = c.at + 6 } = ap (λ (m : ℕ). record { at = c.at + m }) k in
       go (f (comment_at deck pool c)) ∙ heads-drawn e f k h n (record { at = c.at + 6 }) _
-      ∙ ap (λ (x : Cursor). ink s (entries deck pool e i n x) (ink s (if f (comment_at deck pool c) then comment_line i (comment_at deck pool c).text else nothing) p)) (sym same)
+      ∙ ap (λ (x : Cursor). ink s (entries deck pool e i n x) (ink s (when f (comment_at deck pool c) then comment_line i (comment_at deck pool c).text else nothing) p)) (sym same)
       ∙ ap (ink s (entries deck pool e i n d)) (sym (h c p))
     where
       go :
           (b : Bool) →
-          ink s (comment_lines i (if b then (comment_at deck pool c).text ∷ heads_that f (run_from (comment_at deck pool) 6 n (record { at = c.at + 6 })) else heads_that f (run_from (comment_at deck pool) 6 n (record { at = c.at + 6 })))) p
-          ≡ ink s (comment_lines i (heads_that f (run_from (comment_at deck pool) 6 n (record { at = c.at + 6 })))) (ink s (if b then comment_line i (comment_at deck pool c).text else nothing) p)
+          ink s (comment_lines i (when b then (comment_at deck pool c).text ∷ heads_that f (run_from (comment_at deck pool) 6 n (record { at = c.at + 6 })) else heads_that f (run_from (comment_at deck pool) 6 n (record { at = c.at + 6 })))) p
+          ≡ ink s (comment_lines i (heads_that f (run_from (comment_at deck pool) 6 n (record { at = c.at + 6 })))) (ink s (when b then comment_line i (comment_at deck pool c).text else nothing) p)
       go true = refl
       go false = refl
 
@@ -109,7 +109,7 @@ module _ (deck pool : Bytes) (i : ℕ) (s : Settings) where
   repeated-drawn Heads l p = heads-drawn Heads (λ h. true) refl (λ c q. refl) _ _ p
   repeated-drawn Over l p = heads-drawn Over (λ h. not h.below) refl (λ c q. over (comment_at deck pool c).below (comment_line i (text_of deck pool c)) q) _ _ p
     where
-      over : (b : Bool) (a : Script) (q : Pen) → ink s (if b then nothing else a) q ≡ ink s (if not b then a else nothing) q
+      over : (b : Bool) (a : Script) (q : Pen) → ink s (when b then nothing else a) q ≡ ink s (when not b then a else nothing) q
       over true a q = refl
       over false a q = refl
   repeated-drawn Under l p = heads-drawn Under (λ h. h.below) refl (λ c q. refl) _ _ p

@@ -6,7 +6,7 @@ use Rattle.std.proofs.Math.Bool.{false}
 use native.Mathlib.Omega.{arith}
 use Rattle.std.proofs.Math.Dec.{eqb, ltb}
 use borrow.Author.Tests.{ne_eqb, ltb-true, ltb-false, le-leb, lt-leb}
-use Rattle.definition.specs.Base.{Bytes, if◌then◌else◌, within}
+use Rattle.definition.specs.Base.{Bytes, when◌then◌else◌, within}
 use Rattle.definition.specs.Records.{kind_at, record_of, record_at, size_of}
 use Rattle.definition.specs.Deck.{is_node}
 use Rattle.definition.specs.declared.Cursor.{Cursor}
@@ -14,7 +14,7 @@ use Rattle.definition.specs.declared.Record.{Record}
 use Rattle.definition.specs.declared.Record.TheVariants as is
 
 -- what holds of both sides of a test holds of the test
-pub either : {A : Type 0} (P : A → Type 0) (b : Bool) {x y : A} → P x → P y → P (if b then x else y)
+pub either : {A : Type 0} (P : A → Type 0) (b : Bool) {x y : A} → P x → P y → P (when b then x else y)
 either P true p q = p
 either P false p q = q
 

@@ -6,7 +6,7 @@ use Rattle.std.proofs.Math.Bool.{true, false, not}
 use Rattle.std.proofs.Common.{arith}
 use Rattle.std.proofs.Math.Dec.{leb, ltb}
 use borrow.Author.Tests.{leb-true, ltb-true}
-use Rattle.definition.specs.Base.{Bytes, if◌then◌else◌}
+use Rattle.definition.specs.Base.{Bytes, when◌then◌else◌}
 use Rattle.definition.specs.Records.{kind_at, record_at, size_of, past}
 use Rattle.definition.specs.Deck.{Read, fault, got, references, texts_fault, meant, in_order, sound, read_record}
 use Rattle.definition.specs.declared.Cursor.{Cursor}
@@ -48,7 +48,7 @@ module _ (deck : Bytes) (last : ℕ) (c : Cursor) where
       go :
           (x y z : Bool) → sound deck last c ≡ y →
           Outcome deck last c
-          (if x then fault 7 (length deck) else if not y then fault 3 c.at else if z then got (record_at deck c) (past deck c)
+          (when x then fault 7 (length deck) else when not y then fault 3 c.at else when z then got (record_at deck c) (past deck c)
           else fault (texts_fault pool (references (record_at deck c))) c.at)
       go true y z e = bad
       go false false z e = bad

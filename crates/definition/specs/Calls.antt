@@ -1,7 +1,7 @@
 -- The public calls: for each, one function from what it is lent to the whole outcome. (Document 01, "Refusal numbers" and "Strength of the
 -- contracts".) Calls that write are lent no list, and `local_modified` neither list nor output: these are then empty.
 use Rattle.std.specs.Prelude.{ℕ, ◌+◌, Bool, false, ◌||◌, List, [], ◌∷◌, ◌++◌, ltb, length, drop, replicate}
-use Rattle.definition.specs.Base.{Bytes, if◌then◌else◌}
+use Rattle.definition.specs.Base.{Bytes, when◌then◌else◌}
 use Rattle.definition.specs.Settings.{null_as, plain_settings}
 use Rattle.definition.specs.Tree.{Node}
 use Rattle.definition.specs.Document.{emit_one, emit_all}
@@ -59,13 +59,13 @@ answered t cs modified x =
 -- refusals 9 and 10, or the answer
 unfoldable pub handed : Bytes → List Change → Lent → Outcome
 handed t cs x =
-    if ltb (length x.list) (length cs) then no_room 9 x else if ltb (length x.output) (length t) then no_room 10 x else answered t cs false x
+    when ltb (length x.list) (length cs) then no_room 9 x else when ltb (length x.output) (length t) then no_room 10 x else answered t cs false x
 
 -- refusals 1 and 2
 unfoldable pub limited : Settings → Lent → Outcome → Outcome
 limited s x r =
-    if ltb 16 s.indent || ltb 65535 s.width then refused 1 0 x
-    else if ltb 65536 (length x.deck) || ltb 65536 (length x.pool) || ltb 1048576 (length x.output) || ltb 4096 (length x.list) then refused 2 0 x
+    when ltb 16 s.indent || ltb 65535 s.width then refused 1 0 x
+    else when ltb 65536 (length x.deck) || ltb 65536 (length x.pool) || ltb 1048576 (length x.output) || ltb 4096 (length x.list) then refused 2 0 x
     else r
 
 -- refusals 3 to 7

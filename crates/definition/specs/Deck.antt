@@ -3,7 +3,7 @@
 -- deck's length that of the loops over a node's records and over the documents.
 use Rattle.std.specs.Prelude.{ℕ, zero, suc, ◌+◌, ◌/◌, ◌%◌, Bool, true, false, not, ◌&&◌, ◌||◌, List, [], ◌∷◌, ◌++◌, eqb, leb, ltb, length, take, drop}
 use Rattle.std.proofs.Math.Option.{Option, none, some}
-use Rattle.definition.specs.Base.{Bytes, if◌then◌else◌}
+use Rattle.definition.specs.Base.{Bytes, when◌then◌else◌}
 use Rattle.definition.specs.Utf8.{well_formed}
 use Rattle.definition.specs.Records.{byte_at, kind_at, record_at, size_of, past}
 use Rattle.definition.specs.Tree.{Source, Head, Inline, Layout, Kept, Brought, Node, Nodes, Pairs, node, null, scalar, alias, sequence, mapping, end, item, close, pair}
@@ -154,16 +154,16 @@ references (is.Mapping g) = []
 unfoldable pub texts_fault : Bytes → List Text → ℕ
 texts_fault pool [] = 0
 texts_fault pool (t ∷ ts) =
-    let r = texts_fault pool ts in if ltb (length pool) (t.from + t.len) then 4 else if well_formed (words pool t) then r else 5
+    let r = texts_fault pool ts in when ltb (length pool) (t.from + t.len) then 4 else when well_formed (words pool t) then r else 5
 
 -- every byte of the body of the record at a place has a meaning
 unfoldable pub meant : ℕ → Bytes → ℕ → Bool
 meant k deck at =
-    if eqb k 0x03 then ltb (byte_at deck (at + 9)) 2
-    else if eqb k 0x04 then ltb (byte_at deck (at + 5)) 2
-    else if eqb k 0x09 then ltb (byte_at deck (at + 5)) 128
-    else if eqb k 0x21 then ltb (byte_at deck (at + 5)) 5
-    else if eqb k 0x23 || eqb k 0x24 then ltb (byte_at deck (at + 1)) 2
+    when eqb k 0x03 then ltb (byte_at deck (at + 9)) 2
+    else when eqb k 0x04 then ltb (byte_at deck (at + 5)) 2
+    else when eqb k 0x09 then ltb (byte_at deck (at + 5)) 128
+    else when eqb k 0x21 then ltb (byte_at deck (at + 5)) 5
+    else when eqb k 0x23 || eqb k 0x24 then ltb (byte_at deck (at + 1)) 2
     else true
 
 -- kinds 01 to 09 rise, and only 04, 06 and 08 repeat: `last` is the kind before, 0 at a node's first record
@@ -221,7 +221,7 @@ module _ (pool : Bytes) where
   own_or_on go a b p r c =
       let own : Read Whole = got (record { kept = a; brought = b; own = r; place = p }) c in
       let on : Read Whole = go (keep pool r a) (bring pool r b) c in
-      if is_node r then own else on
+      when is_node r then own else on
 
 module _ (deck pool : Bytes) where
   -- the record at a cursor: refusal 7 at the deck's end, then 3, then its references' 4 and 5
@@ -229,9 +229,9 @@ module _ (deck pool : Bytes) where
   read_record last c =
       let r = record_at deck c in
       let n = texts_fault pool (references r) in
-      if leb (length deck) c.at then fault 7 (length deck)
-      else if not (sound deck last c) then fault 3 c.at
-      else if eqb n 0 then got r (past deck c)
+      when leb (length deck) c.at then fault 7 (length deck)
+      else when not (sound deck last c) then fault 3 c.at
+      else when eqb n 0 then got r (past deck c)
       else fault n c.at
 
   -- a node's records up to its own, `n` of them at most
@@ -250,7 +250,7 @@ module _ (deck pool : Bytes) where
   read_trees zero c = got [] c
   read_trees (suc n) c =
       let r = bind (read_node deepest c) (λ x d. bind (read_trees n d) (λ xs e. got (x ∷ xs) e)) in
-      if leb (length deck) c.at then got [] c else r
+      when leb (length deck) c.at then got [] c else r
 
   unfoldable pub read_deck : Read (List Node)
   read_deck = read_trees (length deck) (record { at = 0 })

@@ -1,7 +1,7 @@
 -- The record at a cursor of a deck, totally: past the deck's end a byte is 0, and an unknown kind reads as null and has no bytes. Which
 -- records have a meaning is said in Deck. (Document 01, "The deck".)
 use Rattle.std.specs.Prelude.{ℕ, ◌+◌, ◌*◌, ◌||◌, eqb, get_or}
-use Rattle.definition.specs.Base.{Bytes, if◌then◌else◌}
+use Rattle.definition.specs.Base.{Bytes, when◌then◌else◌}
 use Rattle.definition.specs.declared.Cursor.{Cursor}
 use Rattle.definition.specs.declared.Text.{Text}
 use Rattle.definition.specs.declared.Style.{Style}
@@ -33,17 +33,17 @@ unfoldable pub text_at : Bytes → ℕ → Text
 text_at deck at = record { from = word_at deck at; len = word_at deck (at + 2) }
 
 unfoldable pub style_of : ℕ → Style
-style_of b = if eqb b 0 then Plain else if eqb b 1 then Single else if eqb b 2 then Double else if eqb b 3 then Literal else Folded
+style_of b = when eqb b 0 then Plain else when eqb b 1 then Single else when eqb b 2 then Double else when eqb b 3 then Literal else Folded
 
 unfoldable pub form_of : ℕ → Form
-form_of b = if eqb b 0 then Block else Flow
+form_of b = when eqb b 0 then Block else Flow
 
 unfoldable pub side_of : ℕ → Side
-side_of b = if eqb b 0 then Above else Below
+side_of b = when eqb b 0 then Above else Below
 
 -- the file id of an include: ignored where the byte before it says that it is absent
 unfoldable pub file_at : Bytes → ℕ → File
-file_at deck at = if eqb (byte_at deck at) 0 then Absent else Id (word_at deck (at + 1) + 65536 * word_at deck (at + 3))
+file_at deck at = when eqb (byte_at deck at) 0 then Absent else Id (word_at deck (at + 1) + 65536 * word_at deck (at + 3))
 
 unfoldable pub include_at : Bytes → ℕ → Include
 include_at deck at = record { tag = text_at deck at; target = text_at deck (at + 4); file = file_at deck (at + 8) }
@@ -66,19 +66,19 @@ group_at deck at = record { form = form_of (byte_at deck at); count = word_at de
 -- the record of a kind whose body starts at a place
 unfoldable pub record_of : ℕ → Bytes → ℕ → Record
 record_of k deck at =
-    if eqb k 0x01 then is.Tag (text_at deck at)
-    else if eqb k 0x02 then is.Anchor (text_at deck at)
-    else if eqb k 0x03 then is.Source (include_at deck at)
-    else if eqb k 0x04 then is.Head (heading_at deck at)
-    else if eqb k 0x05 then is.Inline (trailer_at deck at)
-    else if eqb k 0x06 then is.Foot (text_at deck at)
-    else if eqb k 0x07 then is.Raw (text_at deck at)
-    else if eqb k 0x08 then is.Directive (text_at deck at)
-    else if eqb k 0x09 then is.Layout (lines_at deck at)
-    else if eqb k 0x21 then is.Scalar (words_at deck at)
-    else if eqb k 0x22 then is.Alias (text_at deck at)
-    else if eqb k 0x23 then is.Sequence (group_at deck at)
-    else if eqb k 0x24 then is.Mapping (group_at deck at)
+    when eqb k 0x01 then is.Tag (text_at deck at)
+    else when eqb k 0x02 then is.Anchor (text_at deck at)
+    else when eqb k 0x03 then is.Source (include_at deck at)
+    else when eqb k 0x04 then is.Head (heading_at deck at)
+    else when eqb k 0x05 then is.Inline (trailer_at deck at)
+    else when eqb k 0x06 then is.Foot (text_at deck at)
+    else when eqb k 0x07 then is.Raw (text_at deck at)
+    else when eqb k 0x08 then is.Directive (text_at deck at)
+    else when eqb k 0x09 then is.Layout (lines_at deck at)
+    else when eqb k 0x21 then is.Scalar (words_at deck at)
+    else when eqb k 0x22 then is.Alias (text_at deck at)
+    else when eqb k 0x23 then is.Sequence (group_at deck at)
+    else when eqb k 0x24 then is.Mapping (group_at deck at)
     else is.Null
 
 unfoldable pub kind_at : Bytes → Cursor → ℕ
@@ -91,11 +91,11 @@ record_at deck c = let k = kind_at deck c in record_of k deck (c.at + 1)
 -- the bytes of a record, its kind byte too: none of an unknown kind
 unfoldable pub size_of : ℕ → ℕ
 size_of k =
-    if eqb k 0x01 || eqb k 0x02 || eqb k 0x06 || eqb k 0x07 || eqb k 0x08 || eqb k 0x22 then 5
-    else if eqb k 0x04 || eqb k 0x05 || eqb k 0x09 || eqb k 0x21 then 6
-    else if eqb k 0x03 then 14
-    else if eqb k 0x20 then 1
-    else if eqb k 0x23 || eqb k 0x24 then 4
+    when eqb k 0x01 || eqb k 0x02 || eqb k 0x06 || eqb k 0x07 || eqb k 0x08 || eqb k 0x22 then 5
+    else when eqb k 0x04 || eqb k 0x05 || eqb k 0x09 || eqb k 0x21 then 6
+    else when eqb k 0x03 then 14
+    else when eqb k 0x20 then 1
+    else when eqb k 0x23 || eqb k 0x24 then 4
     else 0
 
 -- the cursor after the record at a cursor

@@ -8,7 +8,7 @@ use mathlib.Core.List.{[], ◌∷◌}
 use lib.ListN.{length, get_or}
 use lib.Dec.{eqb, leb}
 use borrow.Author.Tests.{eqb-true, leb-true, leb-false, le-leb, lt-leb, not-true}
-use Rattle.definition.specs.Base.{Bytes, if◌then◌else◌}
+use Rattle.definition.specs.Base.{Bytes, when◌then◌else◌}
 use Rattle.definition.specs.Settings.{step_of}
 use Rattle.definition.specs.Deck.{marked, layout_of}
 use Rattle.definition.specs.Tree.{Node, kept}
@@ -193,7 +193,7 @@ module _ (s : Settings) (deck pool : Bytes) where
       → Emits s (placed_of s first passed (node_at deck pool c)) P R c.at (next_at deck pool c) r (length deck)
   unfolding placed_of
   placed-whole first passed c r x {P} {Q} k e d m =
-      let f : Node → Script = λ n. if first then bom n else separation (kept n) in
+      let f : Node → Script = λ n. when first then bom n else separation (kept n) in
       let y : Draws (f (node_at deck pool c)) P Q = rw (ap f (node-is c x k e) ∙ front-is s deck pool first x) d in
       drawn-first (f (node_at deck pool c)) (document s passed (node_at deck pool c)) y m
 
@@ -226,7 +226,7 @@ module _ (s : Settings) (deck pool : Bytes) where
   file-turn passed P₀ left₀ here₀ P Q first zero here next n g l m e = absurd (omega arith)
   file-turn passed P₀ left₀ here₀ P Q first (suc k) here next n g l m e =
       let d = next_at deck pool here in
-      let f : Cursor → Script = λ c. if leb (length deck) c.at then nothing else placed_from s deck pool passed false k c in
+      let f : Cursor → Script = λ c. when leb (length deck) c.at then nothing else placed_from s deck pool passed false k c in
       let t : ink s (f d) Q ≡ ink s (placed_from s deck pool passed true left₀ here₀) P₀ = ap (ink s (f d)) m.drawn ∙ g.same in
       let u : ink s (f next) Q ≡ ink s (f d) Q = ap (λ (c : Cursor). ink s (f c) Q) m.next in
       record {
@@ -235,7 +235,7 @@ module _ (s : Settings) (deck pool : Bytes) where
         calm = calm-emits g.calm m;
       }
     where
-      go : (b : Bool) → ink s (placed_from s deck pool passed false (if b then 0 else suc k - 1) next) Q ≡ ink s (if b then nothing else placed_from s deck pool passed false k next) Q
+      go : (b : Bool) → ink s (placed_from s deck pool passed false (when b then 0 else suc k - 1) next) Q ≡ ink s (when b then nothing else placed_from s deck pool passed false k next) Q
       go true = refl
       go false = let z : suc k - 1 ≡ k = omega arith in rw z
 
@@ -253,7 +253,7 @@ module _ (s : Settings) (deck pool : Bytes) where
   unfolding ink placed_from placed_of one_document stop_in nothing puts
   one-whole passed c P m z = z.drawn s ∙ ap (ink s (stop_in s)) (m ∙ go (leb (length deck) (next_at deck pool c).at))
     where
-      go : (b : Bool) → ink s (if b then nothing else nothing) (ink s (placed_of s true passed (node_at deck pool c)) P) ≡ ink s (placed_of s true passed (node_at deck pool c)) P
+      go : (b : Bool) → ink s (when b then nothing else nothing) (ink s (placed_of s true passed (node_at deck pool c)) P) ≡ ink s (placed_of s true passed (node_at deck pool c)) P
       go true = refl
       go false = refl
 
@@ -261,7 +261,7 @@ module _ (s : Settings) (deck pool : Bytes) where
 
   rest-is :
       (n : ℕ) (c : Cursor) (Q : Pen) → (c.at < length deck → ink s (placed_from s deck pool false false n c) Q ≡ ink s (later_documents s (trees_from deck pool n c)) Q)
-      → ink s (if leb (length deck) c.at then nothing else placed_from s deck pool false false n c) Q ≡ ink s (later_documents s (trees_from deck pool n c)) Q
+      → ink s (when leb (length deck) c.at then nothing else placed_from s deck pool false false n c) Q ≡ ink s (later_documents s (trees_from deck pool n c)) Q
   unfolding ink later_documents
   rest-is n c Q h =
       by-test (λ (a : Script). ink s a Q ≡ ink s (later_documents s (trees_from deck pool n c)) Q) (leb (length deck) c.at)

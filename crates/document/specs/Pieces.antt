@@ -1,7 +1,7 @@
 -- Pieces of a document, by the marks and counts of its root's leading records; and that each is the definition's.
 use Rattle.std.specs.Prelude.{◌≡◌, refl, ℕ, zero, suc, ◌-◌, Bool, true, false, not, ◌&&◌, [], ◌∷◌, length, eqb, leb}
 use Rattle.std.proofs.Common.{arith, ne_eqb}
-use Rattle.definition.specs.Base.{Bytes, if◌then◌else◌, is_nil}
+use Rattle.definition.specs.Base.{Bytes, when◌then◌else◌, is_nil}
 use Rattle.definition.specs.Settings.{step_of}
 use Rattle.definition.specs.Tree.{Node, kept}
 use Rattle.definition.specs.Deck.{marked, layout_of}
@@ -20,15 +20,15 @@ use Rattle.joints.specs.Entries.{node_at, next_at}
 
 -- mark 64: the byte order mark
 unfoldable pub bom_in : ℕ → Script
-bom_in m = if marked m 64 then put mark (0xef ∷ 0xbb ∷ 0xbf ∷ []) else nothing
+bom_in m = when marked m 64 then put mark (0xef ∷ 0xbb ∷ 0xbf ∷ []) else nothing
 
 -- mark 32: `---`
 unfoldable pub start_in : ℕ → Script
-start_in m = if marked m 32 then dashes else nothing
+start_in m = when marked m 32 then dashes else nothing
 
 -- `...` where the settings ask for it
 unfoldable pub stop_in : Settings → Script
-stop_in s = if s.explicit_end then dots else nothing
+stop_in s = when s.explicit_end then dots else nothing
 
 -- what stands before a document's root: directives, `---`, head comments
 unfoldable pub opened : Bytes → Bytes → Lead → Script
@@ -40,16 +40,16 @@ plain_in l = eqb l.directives.count 0 && eqb l.heads.count 0 && not (marked l.li
 
 -- what separates a document from the one before it
 unfoldable pub separation_in : Lead → Script
-separation_in l = if on l.directives.count then dots else if marked l.lines.marks 32 then nothing else dashes
+separation_in l = when on l.directives.count then dots else when marked l.lines.marks 32 then nothing else dashes
 
 -- what stands before a document, the first one or another
 unfoldable pub front_in : Bool → Lead → Script
-front_in first l = if first then bom_in l.lines.marks else separation_in l
+front_in first l = when first then bom_in l.lines.marks else separation_in l
 
 module _ (s : Settings) where
   -- a document with what stands before it
   unfoldable pub placed_of : Bool → Bool → Node → Script
-  placed_of first passed n = (if first then bom n else separation (kept n)) >> document s passed n
+  placed_of first passed n = (when first then bom n else separation (kept n)) >> document s passed n
 
   module _ (deck pool : Bytes) where
     -- a root that is a block collection, a root on one line, and any root
@@ -62,16 +62,16 @@ module _ (s : Settings) where
         (content_of s false false (step_of s) x.place (kept_in deck pool x) (brought_in deck pool x) (kind_in deck pool x))
 
     unfoldable pub root_of : Bool → Spot → Script
-    root_of passed x = if included_in x.lead.origin && not passed then include_line x.place (kept_in deck pool x) else body s (node_in deck pool x)
+    root_of passed x = when included_in x.lead.origin && not passed then include_line x.place (kept_in deck pool x) else body s (node_in deck pool x)
 
     -- the documents of a file, n at most: the one at a cursor, the first one or another, and others up to the deck's end
     unfoldable pub placed_from : Bool → Bool → ℕ → Cursor → Script
     placed_from passed first zero c = nothing
-    placed_from passed first (suc n) c = placed_of first passed (node_at deck pool c) >> (if leb (length deck) (next_at deck pool c).at then nothing else placed_from passed false n (next_at deck pool c))
+    placed_from passed first (suc n) c = placed_of first passed (node_at deck pool c) >> (when leb (length deck) (next_at deck pool c).at then nothing else placed_from passed false n (next_at deck pool c))
 
 -- how many are left after one that ends at a cursor
 unfoldable pub documents_left : Bytes → Cursor → ℕ → ℕ
-documents_left deck c n = if leb (length deck) c.at then 0 else n - 1
+documents_left deck c n = when leb (length deck) c.at then 0 else n - 1
 
 -- ---- they are the definition's
 
@@ -80,7 +80,7 @@ unfolding is_nil run_from on
 some-run e s zero c = refl
 some-run e s (suc n) c = rw (ne_eqb (suc n) 0 (λ e. absurd (omega arith)))
 
-pub front-is : (s : Settings) (deck pool : Bytes) (first : Bool) (x : Spot) → (if first then bom (node_in deck pool x) else separation (kept (node_in deck pool x))) ≡ front_in first x.lead
+pub front-is : (s : Settings) (deck pool : Bytes) (first : Bool) (x : Spot) → (when first then bom (node_in deck pool x) else separation (kept (node_in deck pool x))) ≡ front_in first x.lead
 unfolding bom separation node_in kept kept_of layout_of bom_in separation_in front_in
 front-is s deck pool true x = refl
 front-is s deck pool false x = rw some-run

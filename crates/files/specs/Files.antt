@@ -1,6 +1,6 @@
 -- One step: the next changed file from a walk on, written behind those before it, with its entry and the walk after it.
 use Rattle.std.specs.Prelude.{◌≡◌, ℕ, zero, suc, ◌+◌, ◌≤◌, Bool, true, false, ◌||◌, ◌++◌, length, take, drop, eqb, ltb}
-use Rattle.definition.specs.Base.{Bytes, if◌then◌else◌}
+use Rattle.definition.specs.Base.{Bytes, when◌then◌else◌}
 use Rattle.definition.specs.Settings.{plain_settings}
 use Rattle.definition.specs.Document.{one_document}
 use Rattle.definition.specs.Calls.{no_change}
@@ -33,7 +33,7 @@ module _ (deck pool : Bytes) where
   found_from (suc n) c =
       let f = look_at c in
       let on = found_from n f.next in
-      if eqb f.present 0 then on else f
+      when eqb f.present 0 then on else f
 
   unfoldable pub found_at : Cursor → Found
   found_at c = found_from (length deck) c
@@ -67,14 +67,14 @@ file_step deck pool out start f =
 -- lengths of deck, pool and output within the limits, a walk within deck and output
 unfoldable pub is_ready : ℕ → ℕ → ℕ → Walk → Bool
 is_ready deck pool out w =
-    if ltb 65536 deck || ltb 65536 pool || ltb 1048576 out then false
-    else if ltb deck w.at || ltb out w.start then false
+    when ltb 65536 deck || ltb 65536 pool || ltb 1048576 out then false
+    else when ltb deck w.at || ltb out w.start then false
     else eqb w.zero 0
 
 unfoldable pub step_of : Bytes → Bytes → Bytes → Walk → Step
 step_of deck pool out w =
     let f = found_at deck pool (record { at = w.at }) in
-    if is_ready (length deck) (length pool) (length out) w then (if eqb f.present 0 then still out w else file_step deck pool out w.start f)
+    when is_ready (length deck) (length pool) (length out) w then (when eqb f.present 0 then still out w else file_step deck pool out w.start f)
     else still out w
 
 unfoldable pub made_at : Bytes → Bytes → Bytes → Walk → Made

@@ -5,7 +5,7 @@ use Rattle.std.proofs.Common.{◌∙◌, arith}
 use Prim.Native.Nat.{ℕ, zero, suc, ◌-◌, ◌<◌, ◌≤◌}
 use Rattle.std.proofs.Math.Option.{Option, none, some}
 use Rattle.std.proofs.Math.Dec.{eqb}
-use Rattle.definition.specs.Base.{Bytes, if◌then◌else◌}
+use Rattle.definition.specs.Base.{Bytes, when◌then◌else◌}
 use Rattle.definition.specs.Tree.{Source, Node, kept}
 use Rattle.definition.specs.Document.{emit_file}
 use Rattle.definition.specs.Change.{Boundary, with_id, own_boundary, changed, local_modified}
@@ -39,12 +39,12 @@ own-formed : (n : Node) (i : ℕ) → changed_file n ≡ Id i → FormedFiles (o
 unfolding changed_file own_boundary with_id file_in id_in FormedFiles
 own-formed n i e h = by (local_modified n) (kept n).source e h
   where
-    named : (b : Bool) (f : Option ℕ) → (if b then id_in f else Absent) ≡ Id i → FormedFiles (with_id f n) → Formed n
+    named : (b : Bool) (f : Option ℕ) → (when b then id_in f else Absent) ≡ Id i → FormedFiles (with_id f n) → Formed n
     named true none e h = not-absent i e
     named false none e h = not-absent i e
     named b (some j) e h = h.0
 
-    by : (b : Bool) (o : Option Source) → (if b then file_in o else Absent) ≡ Id i → FormedFiles (own_boundary o n) → Formed n
+    by : (b : Bool) (o : Option Source) → (when b then file_in o else Absent) ≡ Id i → FormedFiles (own_boundary o n) → Formed n
     by true none e h = not-absent i e
     by false none e h = not-absent i e
     by b (some r) e h = named b r.file e h
@@ -102,7 +102,7 @@ module _ (deck pool : Bytes) where
     where
       go :
           (x : File) → file_at deck pool c ≡ x → (c.at < (step_at deck c).at → file_at deck pool c ≡ Absent → Next (step_at deck c) (found_from deck pool n (step_at deck c)))
-          → Next c (if eqb (found_of x c (step_at deck c)).present 0 then found_from deck pool n (found_of x c (step_at deck c)).next else found_of x c (step_at deck c))
+          → Next c (when eqb (found_of x c (step_at deck c)).present 0 then found_from deck pool n (found_of x c (step_at deck c)).next else found_of x c (step_at deck c))
       go Absent e i = onward-or deck pool c (λ l. next-later c (found_from deck pool n (step_at deck c)) k e (i l e)) (λ l. none-changed c (files-stuck deck pool c k l) h)
       go (Id j) e i = next_here c j k e
 

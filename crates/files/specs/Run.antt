@@ -7,7 +7,7 @@ use Rattle.std.proofs.Math.Bool.{true, false}
 use mathlib.Core.List.{List, [], ◌∷◌, ◌++◌, append_assoc}
 use Rattle.std.proofs.Math.ListN.{length, drop, length-append, length-drop}
 use Rattle.std.proofs.Math.Seq.{length-take-le, take-append_seam, drop-append_seam}
-use Rattle.definition.specs.Base.{Bytes, if◌then◌else◌}
+use Rattle.definition.specs.Base.{Bytes, when◌then◌else◌}
 use Rattle.definition.specs.Settings.{plain_settings}
 use Rattle.definition.specs.Document.{one_document, emit_file}
 use Rattle.definition.specs.Change.{Written, changed, collect}
@@ -88,7 +88,7 @@ module _ (deck pool : Bytes) where
     where
       go :
           (a b : Bool) → is_ready (length deck) (length pool) (length out) w ≡ a
-          → length (if a then (if b then still out w else file_step deck pool out w.start (found_at deck pool (record { at = w.at }))) else still out w).out ≡ length out
+          → length (when a then (when b then still out w else file_step deck pool out w.start (found_at deck pool (record { at = w.at }))) else still out w).out ≡ length out
       go true true e = refl
       go true false e = file-step-length out w.start _ (is-ready _ _ _ w e).room
       go false b e = refl

@@ -8,7 +8,7 @@ use Rattle.std.proofs.Math.Bool.{true, false}
 use mathlib.Core.List.{List, [], ◌∷◌, ◌++◌, append_assoc}
 use Rattle.std.proofs.Math.Dec.{leb, ltb}
 use borrow.Author.Tests.{ltb-true, ltb-false, leb-true}
-use Rattle.definition.specs.Base.{Bytes, if◌then◌else◌}
+use Rattle.definition.specs.Base.{Bytes, when◌then◌else◌}
 use Rattle.definition.specs.Records.{record_at}
 use Rattle.definition.specs.Tree.{kept}
 use Rattle.definition.specs.Deck.{is_node}
@@ -205,7 +205,7 @@ module _ (deck pool : Bytes) where
     no-trees zero c k h = refl
     no-trees (suc n) c k h = rw (next-stays c k h) (go (leb (length deck) c.at) (no-trees n c k h))
       where
-        go : (b : Bool) → boundaries_all (trees_from deck pool n c) ≡ [] → boundaries_all (if b then [] else node_at deck pool c ∷ trees_from deck pool n c) ≡ []
+        go : (b : Bool) → boundaries_all (trees_from deck pool n c) ≡ [] → boundaries_all (when b then [] else node_at deck pool c ∷ trees_from deck pool n c) ≡ []
         go true e = refl
         go false e = rw (no-boundaries c k h) e
 
@@ -218,7 +218,7 @@ module _ (deck pool : Bytes) where
         go :
             (a b : Bool) → leb (length deck) c.at ≡ a → ltb c.at (next_at deck pool c).at ≡ b
             → (c.at < (next_at deck pool c).at → boundaries_all (trees_from deck pool n (next_at deck pool c)) ≡ files_at (next_at deck pool c))
-            → boundaries_all (if a then [] else node_at deck pool c ∷ trees_from deck pool n (next_at deck pool c)) ≡ files_at c
+            → boundaries_all (when a then [] else node_at deck pool c ∷ trees_from deck pool n (next_at deck pool c)) ≡ files_at c
         go true b e f i = sym (files-ended c k (leb-true _ _ e))
         go false true e f i = rw (i (ltb-true _ _ f)) (tree-files c k)
         go false false e f i =

@@ -5,7 +5,7 @@ use Rattle.std.proofs.Common.{sym, true≢false}
 use Rattle.std.proofs.Math.Bool.{true, false}
 use Rattle.std.proofs.Math.Dec.{eqb, ltb}
 use borrow.Author.Tests.{le-ltb, eq-eqb, ne_eqb, ltb-false, eqb-true}
-use Rattle.definition.specs.Base.{Bytes, if◌then◌else◌}
+use Rattle.definition.specs.Base.{Bytes, when◌then◌else◌}
 use Rattle.files.specs.declared.Walk.{Walk}
 use Rattle.files.specs.Files.{found_at, still, file_step, is_ready, step_of}
 
@@ -30,7 +30,7 @@ module _ (deck pool out : ℕ) (w : Walk) where
     where
       go :
           (a b c d e : Bool) → ltb 65536 deck ≡ a → ltb 65536 pool ≡ b → ltb 1048576 out ≡ c → ltb deck w.at ≡ d → ltb out w.start ≡ e
-          → (if a || b || c then false else if d || e then false else eqb w.zero 0) ≡ true → Ready deck pool out w
+          → (when a || b || c then false else when d || e then false else eqb w.zero 0) ≡ true → Ready deck pool out w
       go true b c d e p q r s t z = absurd (true≢false (sym z))
       go false true c d e p q r s t z = absurd (true≢false (sym z))
       go false false true d e p q r s t z = absurd (true≢false (sym z))
@@ -65,7 +65,7 @@ module _ (deck pool out : Bytes) (w : Walk) where
   unfolding step_of
   step-none e = rw (eq-eqb _ _ e) (go (is_ready (length deck) (length pool) (length out) w))
     where
-      go : (b : Bool) → (if b then still out w else still out w) ≡ still out w
+      go : (b : Bool) → (when b then still out w else still out w) ≡ still out w
       go true = refl
       go false = refl
 

@@ -8,7 +8,7 @@ use mathlib.Core.List.{[], ◌∷◌}
 use lib.ListN.{length}
 use lib.Dec.{eqb, ltb}
 use borrow.Author.Tests.{ne_eqb}
-use Rattle.definition.specs.Base.{Bytes, if◌then◌else◌, spaces}
+use Rattle.definition.specs.Base.{Bytes, when◌then◌else◌, spaces}
 use Rattle.definition.specs.Ascii.{LF, SP, '*'}
 use Rattle.definition.specs.Settings.{step_of}
 use Rattle.definition.specs.Deck.{words, marked, layout_of}
@@ -70,7 +70,7 @@ pub mark-small : (m : Manner) (k l : ℕ) → k < 2 → l ≡ key_by m 1 k → l
 unfolding key_by
 mark-small m k l h q = rw q (go (ltb 2 (rank_of m)))
   where
-    go : (b : Bool) → (if b then 1 else k) < 2
+    go : (b : Bool) → (when b then 1 else k) < 2
     go true = omega arith
     go false = h
 
@@ -79,7 +79,7 @@ mark_on : (m : Manner) (n : ℕ) → on (key_by m 1 n) ≡ key_by m true (on n)
 unfolding on key_by
 mark_on m n = go (ltb 2 (rank_of m))
   where
-    go : (b : Bool) → not (eqb (if b then 1 else n) 0) ≡ (if b then true else not (eqb n 0))
+    go : (b : Bool) → not (eqb (when b then 1 else n) 0) ≡ (when b then true else not (eqb n 0))
     go true = refl
     go false = refl
 
@@ -230,7 +230,7 @@ module _ (s : Settings) (deck pool : Bytes) where
 
   pub flow-turn :
       (f k : Bool) (i : ℕ) (pairs first : Bool) (left : ℕ) (here next : Cursor) (P Q R Z : Pen) → 0 < left
-      → Q ≡ ink s (if first then nothing else comma k i) P
+      → Q ≡ ink s (when first then nothing else comma k i) P
       → R ≡ ink s (entry_of deck pool s f k i pairs here) Q → next ≡ entry_end deck pool pairs here
       → ink s (flow_run deck pool s f k i pairs first left here) P ≡ Z
       → ink s (flow_run deck pool s f k i pairs false (left - 1) next) R ≡ Z
@@ -432,17 +432,17 @@ module _ (s : Settings) (deck pool : Bytes) where
   pub flow-step :
       (i : ℕ) (pairs : Bool) (P₀ : Pen) (first₀ : Bool) (left₀ : ℕ) (here₀ : Cursor) (P Q R : Pen) (first : Bool) (left : ℕ) (here next : Cursor)
       → Going i pairs (flow_runs i pairs P₀) P₀ first₀ left₀ here₀ P first left here → 0 < left
-      → Q ≡ ink s (if first then nothing else comma (K P) i) P
+      → Q ≡ ink s (when first then nothing else comma (K P) i) P
       → Emits s (entry_of deck pool s (F Q) (K Q) i pairs here) Q R here.at (entry_end deck pool pairs here) next (length deck)
       → Going i pairs (flow_runs i pairs P₀) P₀ first₀ left₀ here₀ R false (left - 1) next
   unfolding ink
   flow-step i pairs P₀ first₀ left₀ here₀ P Q R first left here next g l b e =
       let kp : K P ≡ K P₀ = ap on g.key in
-      let b₀ : Q ≡ ink s (if first then nothing else comma (K P₀) i) P = rw kp at b in
-      let fq : F Q ≡ F P₀ = flow-kept s (if first then nothing else comma (K P) i) P Q b ∙ ap on g.flow in
-      let kq : K Q ≡ K P₀ = key-kept s (if first then nothing else comma (K P) i) P Q b ∙ kp in
+      let b₀ : Q ≡ ink s (when first then nothing else comma (K P₀) i) P = rw kp at b in
+      let fq : F Q ≡ F P₀ = flow-kept s (when first then nothing else comma (K P) i) P Q b ∙ ap on g.flow in
+      let kq : K Q ≡ K P₀ = key-kept s (when first then nothing else comma (K P) i) P Q b ∙ kp in
       let d : R ≡ ink s (entry_of deck pool s (F P₀) (K P₀) i pairs here) Q = rw (fq, kq) at e.drawn in
-      step i pairs (flow_runs i pairs P₀) P₀ first₀ left₀ here₀ P R first false left here next ((if first then nothing else comma (K P₀) i) >> entry_of deck pool s (F P₀) (K P₀) i pairs here) g l
+      step i pairs (flow_runs i pairs P₀) P₀ first₀ left₀ here₀ P R first false left here next ((when first then nothing else comma (K P₀) i) >> entry_of deck pool s (F P₀) (K P₀) i pairs here) g l
       (d ∙ ap (ink s (entry_of deck pool s (F P₀) (K P₀) i pairs here)) b₀)
       (flow-turn (F P₀) (K P₀) i pairs first left here next P Q R _ l b₀ d e.next refl)
       e.next e.onward e.within

@@ -1,7 +1,7 @@
 -- What a function of the emitter asks for, and what it does.
 use Rattle.std.specs.Prelude.{◌≡◌, ℕ, ◌+◌, ◌-◌, ◌*◌, ◌<◌, ◌≤◌, Bool, true, false, length, eqb}
 use Rattle.std.proofs.Common.{ap, ◌∙◌, arith}
-use Rattle.definition.specs.Base.{Bytes, if◌then◌else◌}
+use Rattle.definition.specs.Base.{Bytes, when◌then◌else◌}
 use Rattle.definition.specs.Settings.{step_of}
 use Rattle.definition.specs.Tree.{Node}
 use Rattle.definition.specs.Pen.{Script}
@@ -41,7 +41,7 @@ pub step_small : (s : Settings) → s.indent ≤ 16 → step_of s ≤ 16
 unfolding step_of
 step_small s h = go (eqb s.indent 0)
   where
-    go : (b : Bool) → (if b then 2 else s.indent) ≤ 16
+    go : (b : Bool) → (when b then 2 else s.indent) ≤ 16
     go true = omega arith
     go false = h
 

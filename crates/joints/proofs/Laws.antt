@@ -7,7 +7,7 @@ use mathlib.Core.Bool.{Bool, true, false}
 use lib.ListN.{length}
 use lib.Dec.{ltb}
 use borrow.Author.Tests.{lt-ltb, le-ltb}
-use Rattle.definition.specs.Base.{Bytes, if◌then◌else◌, spaces}
+use Rattle.definition.specs.Base.{Bytes, when◌then◌else◌, spaces}
 use Rattle.definition.specs.Ascii.{SP, ':'}
 use Rattle.definition.specs.Tree.{kept}
 use Rattle.definition.specs.Pen.{mark, space, sign, indent}
@@ -40,9 +40,9 @@ last-item deck pairs c e h = record { is = λ pool. rw e; onward = omega arith; 
 
 -- ---- the key mark
 
-mark-is : (m : Manner) (k : ℕ) (b : Bool) → ltb 2 (rank_of m) ≡ b → (if b then 1 else k) ≡ key_by m 1 k
+mark-is : (m : Manner) (k : ℕ) (b : Bool) → ltb 2 (rank_of m) ≡ b → (when b then 1 else k) ≡ key_by m 1 k
 unfolding key_by
-mark-is m k b t = sym (ap (λ (x : Bool). if x then 1 else k) t)
+mark-is m k b t = sym (ap (λ (x : Bool). when x then 1 else k) t)
 
 pub in-key : (m : Manner) (n k : ℕ) → n ≡ rank_of m → 2 < n → 1 ≡ key_by m 1 k
 in-key m n k e t = mark-is m k true (lt-ltb 2 (rank_of m) (rw e at t))

@@ -5,7 +5,7 @@ use Rattle.std.proofs.Common.{◌∙◌}
 use Prim.Native.Nat.{ℕ, zero, suc, ◌+◌}
 use Rattle.std.proofs.Math.Bool.{true, false}
 use Rattle.std.proofs.Math.Option.{Option}
-use Rattle.definition.specs.Base.{Bytes, if◌then◌else◌}
+use Rattle.definition.specs.Base.{Bytes, when◌then◌else◌}
 use Rattle.definition.specs.Ascii.{SP, COMMA, '[', ']', OPEN, CLOSE}
 use Rattle.definition.specs.Settings.{step_of}
 use Rattle.definition.specs.Tree.{Inline, Kept, Brought, Node, sequence, mapping, place, kept, brought}
@@ -31,7 +31,7 @@ closing false = ']'
 
 -- what stands after an entry on a line of its own, the last one or not: the place and the inline comment of its last node
 unfoldable pub lined_after : Bool → ℕ → Option Inline → Script
-lined_after last p m = (if last then nothing else sign COMMA) >> comment p m >> newline
+lined_after last p m = (when last then nothing else sign COMMA) >> comment p m >> newline
 
 module _ (deck pool : Bytes) where
   abbrev pub node_at : Cursor → Node
@@ -83,7 +83,7 @@ module _ (deck pool : Bytes) where
     -- n entries on one line
     unfoldable pub flow_run : ℕ → Bool → Bool → ℕ → Cursor → Script
     flow_run i pairs first zero c = nothing
-    flow_run i pairs first (suc n) c = (if first then nothing else comma key i) >> entry_of i pairs c >> flow_run i pairs false n (entry_end pairs c)
+    flow_run i pairs first (suc n) c = (when first then nothing else comma key i) >> entry_of i pairs c >> flow_run i pairs false n (entry_end pairs c)
 
     unfoldable pub lined_of : ℕ → Bool → Bool → Cursor → Script
     lined_of i pairs last c = lined_before i pairs c (kept (node_at (last_of pairs c))) >> entry_of i pairs c >> lined_after last (place (node_at (last_of pairs c))) (kept (node_at (last_of pairs c))).inline
@@ -101,7 +101,7 @@ module _ (deck pool : Bytes) where
   plain_in s flow key i pairs n c = sign (opening pairs) >> flow_run s flow key i pairs true n c >> sign (closing pairs)
 
   unfoldable pub group_of : Settings → Bool → Bool → ℕ → Bool → ℕ → Cursor → Script
-  group_of s flow key i pairs n c = if some_comments pairs n c then lined_in s flow key i (i + step_of s) pairs n c else plain_in s flow key i pairs n c
+  group_of s flow key i pairs n c = when some_comments pairs n c then lined_in s flow key i (i + step_of s) pairs n c else plain_in s flow key i pairs n c
 
   -- ---- the walk over the tree
 
@@ -116,12 +116,12 @@ module _ (deck pool : Bytes) where
     flow-pairs i first zero c p = refl
     flow-pairs i first (suc n) c p = flow-pairs i false n (next_at (next_at c)) _
 
-    some_item-ink : (n : ℕ) (c : Cursor) (a : Script) (p : Pen) → ink s (if some_item (items_from (tree_at deck pool) n c).value then a else nothing) p ≡ ink s (if is_none n then nothing else a) p
+    some_item-ink : (n : ℕ) (c : Cursor) (a : Script) (p : Pen) → ink s (when some_item (items_from (tree_at deck pool) n c).value then a else nothing) p ≡ ink s (when is_none n then nothing else a) p
     unfolding items_from some_item is_none
     some_item-ink zero c a p = refl
     some_item-ink (suc n) c a p = refl
 
-    some_pair-ink : (n : ℕ) (c : Cursor) (a : Script) (p : Pen) → ink s (if some_pair (pairs_from (tree_at deck pool) n c).value then a else nothing) p ≡ ink s (if is_none n then nothing else a) p
+    some_pair-ink : (n : ℕ) (c : Cursor) (a : Script) (p : Pen) → ink s (when some_pair (pairs_from (tree_at deck pool) n c).value then a else nothing) p ≡ ink s (when is_none n then nothing else a) p
     unfolding pairs_from some_pair is_none
     some_pair-ink zero c a p = refl
     some_pair-ink (suc n) c a p = refl
@@ -146,8 +146,8 @@ module _ (deck pool : Bytes) where
       where
         go :
             (t : Bool) →
-            ink s (if t then sign '[' >> newline >> lined_items s key (i + step_of s) (items_from (tree_at deck pool) n c).value >> indent i >> sign ']' else (sign '[' >> flow_items s key i true (items_from (tree_at deck pool) n c).value >> sign ']')) p
-            ≡ ink s (if t then lined_in s true key i (i + step_of s) false n c else plain_in s true key i false n c) p
+            ink s (when t then sign '[' >> newline >> lined_items s key (i + step_of s) (items_from (tree_at deck pool) n c).value >> indent i >> sign ']' else (sign '[' >> flow_items s key i true (items_from (tree_at deck pool) n c).value >> sign ']')) p
+            ≡ ink s (when t then lined_in s true key i (i + step_of s) false n c else plain_in s true key i false n c) p
         go true = ap (λ (q : Pen). ink s (indent i >> sign ']') q) (lined-items (i + step_of s) n c _)
         go false = ap (λ (q : Pen). ink s (sign ']') q) (flow-items i true n c _)
 
@@ -157,8 +157,8 @@ module _ (deck pool : Bytes) where
       where
         go :
             (t : Bool) →
-            ink s (if t then sign OPEN >> newline >> lined_pairs s key (i + step_of s) (pairs_from (tree_at deck pool) n c).value >> indent i >> sign CLOSE else (sign OPEN >> flow_pairs s key i true (pairs_from (tree_at deck pool) n c).value >> sign CLOSE)) p
-            ≡ ink s (if t then lined_in s true key i (i + step_of s) true n c else plain_in s true key i true n c) p
+            ink s (when t then sign OPEN >> newline >> lined_pairs s key (i + step_of s) (pairs_from (tree_at deck pool) n c).value >> indent i >> sign CLOSE else (sign OPEN >> flow_pairs s key i true (pairs_from (tree_at deck pool) n c).value >> sign CLOSE)) p
+            ≡ ink s (when t then lined_in s true key i (i + step_of s) true n c else plain_in s true key i true n c) p
         go true = ap (λ (q : Pen). ink s (indent i >> sign CLOSE) q) (lined-pairs (i + step_of s) n c _)
         go false = ap (λ (q : Pen). ink s (sign CLOSE) q) (flow-pairs i true n c _)
 

@@ -1,7 +1,7 @@
 -- A node on its line, in one of five manners: its properties, its content, and what ends it.
 use Rattle.std.specs.Prelude.{◌≡◌, ℕ, Bool, true, eqb, ltb}
 use Rattle.std.proofs.Math.Path.{refl}
-use Rattle.definition.specs.Base.{Bytes, if◌then◌else◌}
+use Rattle.definition.specs.Base.{Bytes, when◌then◌else◌}
 use Rattle.definition.specs.Tree.{Kept, Kind, Node, node, brought}
 use Rattle.definition.specs.Pen.{Script, comment, end_line, ◌>>◌, nothing}
 use Rattle.definition.specs.Walk.{props, colon, inline_key, content}
@@ -20,18 +20,18 @@ rank_of Asked = 4
 
 -- its properties, where they are not written already
 unfoldable pub dressed : Manner → Script → Script
-dressed m a = if eqb (rank_of m) 2 then nothing else a
+dressed m a = when eqb (rank_of m) 2 then nothing else a
 
 -- inside a key there is a mark; in any other node it is as outside. The walk has it as a Bool, the writer as a number
 unfoldable pub key_by : {A : Type 0} → Manner → A → A → A
-key_by m inside outside = if ltb 2 (rank_of m) then inside else outside
+key_by m inside outside = when ltb 2 (rank_of m) then inside else outside
 
 -- nothing after an entry; the inline comment and the line's end; the colon; the line's end
 unfoldable pub ending : Manner → ℕ → Kept → Kind → Script
 ending m p a k =
-    if eqb (rank_of m) 0 then nothing
-    else if eqb (rank_of m) 1 then comment p a.inline >> end_line
-    else if eqb (rank_of m) 3 then colon k
+    when eqb (rank_of m) 0 then nothing
+    else when eqb (rank_of m) 1 then comment p a.inline >> end_line
+    else when eqb (rank_of m) 3 then colon k
     else end_line
 
 unfoldable pub line_of : Settings → Bool → Bool → Manner → ℕ → Node → Script

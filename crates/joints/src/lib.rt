@@ -2,7 +2,7 @@
 #![tactic(auto)]
 
 ghost use Rattle.std.specs.Prelude.{◌≡◌, ◌<◌, ◌≤◌, ◌^◌, length};
-ghost use Rattle.definition.specs.Base.{if◌then◌else◌};
+ghost use Rattle.definition.specs.Base.{when◌then◌else◌};
 ghost use Rattle.definition.specs.Ascii.{COMMA};
 ghost use Rattle.definition.specs.Pen.{comma, nothing, sign};
 ghost use Rattle.definition.specs.Walk.{props};
@@ -27,7 +27,7 @@ use terms::Terms;
 // `emit_flow_separator`, but before the first entry.
 pub fn put_between(w: Writer, out: &mut [u8], terms: Terms, first: bool, i: usize) -> Writer
     requires { length out.old < 2 ^ 21 }
-    ensures { pen result out.new ≡ ink (settings_in terms) (if first then nothing else comma (on (fields w).key) i) (pen w out.old) }
+    ensures { pen result out.new ≡ ink (settings_in terms) (when first then nothing else comma (on (fields w).key) i) (pen w out.old) }
 {
     if first {
         return w;
@@ -179,7 +179,7 @@ pub fn put_lined_before(
 // The comma after an entry, but after the last one.
 fn put_comma(w: Writer, out: &mut [u8], last: bool) -> Writer
     requires { length out.old < 2 ^ 21 }
-    ensures { Draws (if last then nothing else sign COMMA) (pen w out.old) (pen result out.new) }
+    ensures { Draws (when last then nothing else sign COMMA) (pen w out.old) (pen result out.new) }
 {
     if last {
         return w;

@@ -7,7 +7,7 @@ use mathlib.Core.List.{List, [], ◌∷◌}
 use lib.ListN.{length, take, drop}
 use lib.Dec.{eqb, ltb}
 use borrow.Author.Tests.{le-leb, lt-leb, lt-ltb, le-ltb, eq-eqb, ne_eqb}
-use Rattle.definition.specs.Base.{Bytes, if◌then◌else◌}
+use Rattle.definition.specs.Base.{Bytes, when◌then◌else◌}
 use Rattle.definition.specs.Utf8.{well_formed}
 use Rattle.definition.specs.Records.{kind_at, record_at, size_of, past}
 use Rattle.definition.specs.Tree.{Kept, Brought, Node, node, item, pair, sequence, mapping}
@@ -85,8 +85,8 @@ module _ (deck pool : Bytes) where
           (w : Bool) →
           step_of (bind (read_whole deck pool n (kind_at deck c) (keep pool (record_at deck c) a) (bring pool (record_at deck c) b) (past deck c)) k)
           ≡ chain (lead_of deck pool n (kind_at deck c) (past deck c)) K →
-          step_of (bind (if w then got (whole_of deck a b c) (past deck c) else read_whole deck pool n (kind_at deck c) (keep pool (record_at deck c) a) (bring pool (record_at deck c) b) (past deck c)) k)
-          ≡ chain (if w then step.On c else lead_of deck pool n (kind_at deck c) (past deck c)) K
+          step_of (bind (when w then got (whole_of deck a b c) (past deck c) else read_whole deck pool n (kind_at deck c) (keep pool (record_at deck c) a) (bring pool (record_at deck c) b) (past deck c)) k)
+          ≡ chain (when w then step.On c else lead_of deck pool n (kind_at deck c) (past deck c)) K
       own true ih = h a b c
       own false ih = ih
 
@@ -95,7 +95,7 @@ module _ (deck pool : Bytes) where
           step_of (bind (read_whole deck pool n (kind_at deck c) (keep pool (record_at deck c) a) (bring pool (record_at deck c) b) (past deck c)) k)
           ≡ chain (lead_of deck pool n (kind_at deck c) (past deck c)) K →
           step_of (bind (bind r (own_or_on pool (λ a' b' d. read_whole deck pool n (kind_at deck c) a' b' d) a b c.at)) k)
-          ≡ chain (chain (step_of r) (λ d. if is_node (record_at deck c) then step.On c else lead_of deck pool n (kind_at deck c) d)) K
+          ≡ chain (chain (step_of r) (λ d. when is_node (record_at deck c) then step.On c else lead_of deck pool n (kind_at deck c) d)) K
       go bad ih = refl
       go (good s) ih = own (is_node (record_at deck c)) ih
 
@@ -119,7 +119,7 @@ module _ (pool : Bytes) (t : Text) where
   unfolding texts_fault
   text_out h = rw (lt-ltb _ _ h)
 
-  text_in : (ts : List Text) → t.from + t.len ≤ length pool → texts_fault pool (t ∷ ts) ≡ (if well_formed (take t.len (drop t.from pool)) then texts_fault pool ts else 5)
+  text_in : (ts : List Text) → t.from + t.len ≤ length pool → texts_fault pool (t ∷ ts) ≡ (when well_formed (take t.len (drop t.from pool)) then texts_fault pool ts else 5)
   unfolding texts_fault words
   text_in ts h = rw (le-ltb _ _ h)
 
@@ -131,14 +131,14 @@ module _ (pool : Bytes) (t : Text) where
   text-bad w h e g = rw (text_in [] h, ← e, g)
 
   -- the first reference decides, unless it has no fault
-  texts-is : (ts : List Text) → texts_fault pool (t ∷ ts) ≡ (if eqb (texts_fault pool (t ∷ [])) 0 then texts_fault pool ts else texts_fault pool (t ∷ []))
+  texts-is : (ts : List Text) → texts_fault pool (t ∷ ts) ≡ (when eqb (texts_fault pool (t ∷ [])) 0 then texts_fault pool ts else texts_fault pool (t ∷ []))
   unfolding texts_fault
   texts-is ts = go (ltb (length pool) (t.from + t.len)) (well_formed (words pool t))
     where
       go :
           (x y : Bool) →
-          (if x then 4 else if y then texts_fault pool ts else 5)
-          ≡ (if eqb (if x then 4 else if y then 0 else 5) 0 then texts_fault pool ts else (if x then 4 else if y then 0 else 5))
+          (when x then 4 else when y then texts_fault pool ts else 5)
+          ≡ (when eqb (when x then 4 else when y then 0 else 5) 0 then texts_fault pool ts else (when x then 4 else when y then 0 else 5))
       go true y = refl
       go false true = refl
       go false false = refl

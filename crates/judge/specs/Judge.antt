@@ -1,6 +1,6 @@
 -- What the judge makes of the definition's reading: a refusal as it is, else the cursor after it, or the number of trees. These are definitions.
 use Rattle.std.specs.Prelude.{ℕ, zero, suc, ◌+◌, ◌≤◌, ◌≡◌, Bool, List, length}
-use Rattle.definition.specs.Base.{Bytes, if◌then◌else◌}
+use Rattle.definition.specs.Base.{Bytes, when◌then◌else◌}
 use Rattle.definition.specs.Utf8.{well_formed}
 use Rattle.utf8.specs.Runs.{Runs}
 use Rattle.definition.specs.Records.{kind_at, size_of, record_at}
@@ -36,7 +36,7 @@ chain (step.Refused n p) k = step.Refused n p
 unfoldable pub lead_of : Bytes → Bytes → ℕ → ℕ → Cursor → Step
 lead_of deck pool zero last c = step.Refused 7 (length deck)
 lead_of deck pool (suc n) last c =
-    chain (step_of (read_record deck pool last c)) (λ d. if is_node (record_at deck c) then step.On c else lead_of deck pool n (kind_at deck c) d)
+    chain (step_of (read_record deck pool last c)) (λ d. when is_node (record_at deck c) then step.On c else lead_of deck pool n (kind_at deck c) d)
 
 -- the record at the cursor lies in the deck as a whole
 abbrev pub Fitting : Bytes → Step → Type 0

@@ -2,7 +2,7 @@
 use Rattle.std.specs.Prelude.{◌≡◌, refl, ℕ, Bool, true, false}
 use Rattle.std.proofs.Math.Path.{ap}
 use Rattle.std.proofs.Common.{◌∙◌}
-use Rattle.definition.specs.Base.{if◌then◌else◌}
+use Rattle.definition.specs.Base.{when◌then◌else◌}
 use Rattle.definition.specs.Pen.{Script, ◌>>◌}
 use Rattle.definition.specs.Tree.{Kept, Brought, Kind, Node, node}
 use Rattle.definition.specs.Walk.{inlined, content}
@@ -25,10 +25,10 @@ module _ {s : Settings} {st : ℕ} {z r : Cursor} {l : ℕ} where
   unfolding ink
   drawn-last a b e d = record { drawn = d.drawn s ∙ ap (ink s b) e.drawn; next = e.next; onward = e.onward; within = e.within }
 
-  pub emits-yes : {P Q : Pen} (t : Bool) (a b : Script) → t ≡ true → Emits s a P Q st z r l → Emits s (if t then a else b) P Q st z r l
+  pub emits-yes : {P Q : Pen} (t : Bool) (a b : Script) → t ≡ true → Emits s a P Q st z r l → Emits s (when t then a else b) P Q st z r l
   emits-yes t a b e d = rw e d
 
-  pub emits-no : {P Q : Pen} (t : Bool) (a b : Script) → t ≡ false → Emits s b P Q st z r l → Emits s (if t then a else b) P Q st z r l
+  pub emits-no : {P Q : Pen} (t : Bool) (a b : Script) → t ≡ false → Emits s b P Q st z r l → Emits s (when t then a else b) P Q st z r l
   emits-no t a b e d = rw e d
 
   pub emits-same : {P Q : Pen} (a b : Script) → a ≡ b → Emits s a P Q st z r l → Emits s b P Q st z r l

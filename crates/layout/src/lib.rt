@@ -2,7 +2,7 @@
 #![tactic(auto)]
 
 ghost use Rattle.std.specs.Prelude.{◌≡◌, ◌<◌, ◌≤◌, ◌^◌, max, false, length};
-ghost use Rattle.definition.specs.Base.{if◌then◌else◌};
+ghost use Rattle.definition.specs.Base.{when◌then◌else◌};
 ghost use Rattle.definition.specs.Pen.{nothing, indent};
 ghost use Rattle.definition.specs.Walk.{below_introducer, content};
 ghost use Rattle.terms.specs.Terms.{settings_in};
@@ -131,7 +131,7 @@ pub fn put_before(
     begin: bool,
 ) -> Writer
     requires { (length out.old < 2 ^ 21) × Short lead }
-    ensures { Draws (if begin then before pairs (kept_of deck.now pool.now lead) i else nothing) (pen w out.old) (pen result out.new) }
+    ensures { Draws (when begin then before pairs (kept_of deck.now pool.now lead) i else nothing) (pen w out.old) (pen result out.new) }
 {
     if begin {
         return parts::put_before(w, deck, pool, out, pairs, lead, i);

@@ -8,7 +8,7 @@ use mathlib.Core.List.{[], ◌∷◌}
 use lib.ListN.{length, get_or, drop}
 use lib.Seq.{drop-cons, get_or-drop}
 use lib.Dec.{eqb}
-use Rattle.definition.specs.Base.{Bytes, if◌then◌else◌, any, has}
+use Rattle.definition.specs.Base.{Bytes, when◌then◌else◌, any, has}
 use Rattle.definition.specs.Ascii.{TAB, LF, SP}
 use Rattle.definition.specs.Utf8.{well_formed}
 use Rattle.definition.specs.Block.{leads_blank, use_literal_block}
@@ -17,7 +17,7 @@ use Rattle.literal.specs.Unfit.{unfit_at}
 
 module _ (s : Bytes) (i : ℕ) (h : i < length s) where
   module _ (f : ℕ → ℕ → ℕ → Bool) (g : any_at f (drop i s) ≡ any_at f s) where
-    place : any_at f (drop i s) ≡ (if f (get_or s i 0) (get_or s (i + 1) 0) (get_or s (i + 2) 0) then true else any_at f (drop (i + 1) s))
+    place : any_at f (drop i s) ≡ (when f (get_or s i 0) (get_or s (i + 1) 0) (get_or s (i + 2) 0) then true else any_at f (drop (i + 1) s))
     unfolding any_at
     place =
         let x : get_or (drop (suc i) s) 0 0 ≡ get_or s (i + 1) 0 = get_or-drop (suc i) s 0 0 ∙ ap (λ (n : ℕ). get_or s n 0) (omega arith) in
@@ -31,7 +31,7 @@ module _ (s : Bytes) (i : ℕ) (h : i < length s) where
     passed e = sym (rw e at place) ∙ g
 
   -- a blank may lead, past line breaks
-  leads : leads_blank (drop i s) ≡ (if eqb (get_or s i 0) LF then leads_blank (drop (i + 1) s) else eqb (get_or s i 0) SP || eqb (get_or s i 0) TAB)
+  leads : leads_blank (drop i s) ≡ (when eqb (get_or s i 0) LF then leads_blank (drop (i + 1) s) else eqb (get_or s i 0) SP || eqb (get_or s i 0) TAB)
   unfolding leads_blank
   leads = rw (drop-cons s i 0 h, add-one)
 

@@ -6,7 +6,7 @@ use native.Mathlib.Omega.{arith}
 use mathlib.Core.Bool.{Bool, true, false}
 use mathlib.Core.List.{[]}
 use lib.ListN.{length, length-append}
-use Rattle.definition.specs.Base.{Bytes, if◌then◌else◌}
+use Rattle.definition.specs.Base.{Bytes, when◌then◌else◌}
 use Rattle.definition.specs.Change.{boundaries, changed, local_modified}
 use Rattle.definition.specs.declared.Cursor.{Cursor}
 use Rattle.definition.specs.declared.File.{File}
@@ -30,7 +30,7 @@ unfolding tally
 tally-most Absent = omega arith
 tally-most (Id i) = omega arith
 
-tally-none : (m : Bool) → tally (if m then Absent else Absent) ≡ 0
+tally-none : (m : Bool) → tally (when m then Absent else Absent) ≡ 0
 unfolding tally
 tally-none true = refl
 tally-none false = refl

@@ -5,7 +5,7 @@ use Prim.Native.Nat.{ℕ, zero, suc, ◌-◌, ◌*◌, ◌<◌, ◌≤◌}
 use native.Mathlib.Omega.{arith}
 use mathlib.Core.Bool.{Bool, true, false, not, ◌&&◌, ◌||◌, true≢false}
 use lib.ListN.{length}
-use Rattle.definition.specs.Base.{Bytes, if◌then◌else◌}
+use Rattle.definition.specs.Base.{Bytes, when◌then◌else◌}
 use Rattle.definition.specs.Tree.{kept}
 use Rattle.definition.specs.Deck.{marked}
 use Rattle.definition.specs.Change.{local_modified}
@@ -132,7 +132,7 @@ module _ (deck : Bytes) (c : Cursor) (k : c.at ≤ length deck) (o : Origin) (at
   pub file-absent : {f : File} → f ≡ file_named deck o → f ≡ Absent → Files deck c Absent
   file-absent e z = record { told = λ pool. sym (rw (← at, ← e, z) at (file-is deck pool c k) ∙ same (local_modified (tree_at deck pool c).value)) }
     where
-      same : (b : Bool) → (if b then Absent else Absent) ≡ Absent
+      same : (b : Bool) → (when b then Absent else Absent) ≡ Absent
       same true = refl
       same false = refl
 

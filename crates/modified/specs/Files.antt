@@ -6,7 +6,7 @@ use Prim.Native.Nat.{ℕ, zero, suc, ◌+◌, ◌<◌, ◌≤◌}
 use mathlib.Core.List.{List, [], ◌∷◌, ◌++◌}
 use Rattle.std.proofs.Math.Option.{Option, none, some}
 use Rattle.std.proofs.lemmas.Bool.{lt-leb}
-use Rattle.definition.specs.Base.{Bytes, if◌then◌else◌}
+use Rattle.definition.specs.Base.{Bytes, when◌then◌else◌}
 use Rattle.definition.specs.Records.{include_at}
 use Rattle.definition.specs.Tree.{Source, Node, kept}
 use Rattle.definition.specs.Deck.{file_of, source_of}
@@ -41,7 +41,7 @@ file_in (some r) = id_in r.file
 
 -- the id of the file that a node is, if it is one and changed
 unfoldable pub changed_file : Node → File
-changed_file n = if local_modified n then file_in (kept n).source else Absent
+changed_file n = when local_modified n then file_in (kept n).source else Absent
 
 unfoldable pub file_at : Bytes → Bytes → Cursor → File
 file_at deck pool c = changed_file (tree_at deck pool c).value
@@ -51,20 +51,20 @@ unfoldable pub entry : File → Node → List Written
 entry Absent n = []
 entry (Id i) n = record { id = i; bytes = emit_file n } ∷ []
 
-own-id : (n : Node) (f : Option ℕ) (bs : List Boundary) → changed (with_id f n ++ bs) ≡ entry (if local_modified n then id_in f else Absent) n ++ changed bs
+own-id : (n : Node) (f : Option ℕ) (bs : List Boundary) → changed (with_id f n ++ bs) ≡ entry (when local_modified n then id_in f else Absent) n ++ changed bs
 unfolding with_id changed written_of entry id_in
 own-id n none bs = go (local_modified n)
   where
-    go : (b : Bool) → changed bs ≡ entry (if b then Absent else Absent) n ++ changed bs
+    go : (b : Bool) → changed bs ≡ entry (when b then Absent else Absent) n ++ changed bs
     go true = refl
     go false = refl
 own-id n (some i) bs = go (local_modified n)
   where
-    go : (b : Bool) → (if b then record { id = i; bytes = emit_file n } ∷ changed bs else changed bs) ≡ entry (if b then Id i else Absent) n ++ changed bs
+    go : (b : Bool) → (when b then record { id = i; bytes = emit_file n } ∷ changed bs else changed bs) ≡ entry (when b then Id i else Absent) n ++ changed bs
     go true = refl
     go false = refl
 
-own-source : (n : Node) (r : Option Source) (bs : List Boundary) → changed (own_boundary r n ++ bs) ≡ entry (if local_modified n then file_in r else Absent) n ++ changed bs
+own-source : (n : Node) (r : Option Source) (bs : List Boundary) → changed (own_boundary r n ++ bs) ≡ entry (when local_modified n then file_in r else Absent) n ++ changed bs
 unfolding own_boundary file_in
 own-source n none bs = unfold with_id id_in in own-id n none bs
 own-source n (some r) bs = own-id n r.file bs
@@ -76,7 +76,7 @@ own-changed n bs = own-source n (kept n).source bs
 
 -- the file of an include that may be absent
 unfoldable pub file_named : Bytes → Origin → File
-file_named deck o = if included_in o then (include_at deck o.at).file else Absent
+file_named deck o = when included_in o then (include_at deck o.at).file else Absent
 
 id-is : (f : File) → id_in (file_of f) ≡ f
 unfolding id_in file_of
@@ -87,14 +87,14 @@ named-is : (deck pool : Bytes) (o : Origin) → file_in (origin_of deck pool o) 
 unfolding file_named included_in on origin_of source_of file_in
 named-is deck pool o = go (eqb o.at 0)
   where
-    go : (b : Bool) → file_in (if b then none else some (source_of pool (include_at deck o.at))) ≡ (if not b then (include_at deck o.at).file else Absent)
+    go : (b : Bool) → file_in (when b then none else some (source_of pool (include_at deck o.at))) ≡ (when not b then (include_at deck o.at).file else Absent)
     go true = refl
     go false = id-is (include_at deck o.at).file
 
 -- the file of the node at a cursor, by its head
 pub file-is :
     (deck pool : Bytes) (c : Cursor) → c.at ≤ length deck →
-    file_at deck pool c ≡ (if local_modified (tree_at deck pool c).value then file_named deck (spot_at deck c).lead.origin else Absent)
+    file_at deck pool c ≡ (when local_modified (tree_at deck pool c).value then file_named deck (spot_at deck c).lead.origin else Absent)
 unfolding file_at changed_file node_in kept kept_of
 file-is deck pool c k = rw (tree-value deck pool c k, named-is deck pool (spot_at deck c).lead.origin)
 
@@ -105,7 +105,7 @@ unfolding changed
 changed-append [] ys = refl
 changed-append (x ∷ xs) ys = rw (changed-append xs ys) (go (local_modified x.node))
   where
-    go : (b : Bool) → (if b then written_of x ∷ (changed xs ++ changed ys) else (changed xs ++ changed ys)) ≡ (if b then written_of x ∷ changed xs else changed xs) ++ changed ys
+    go : (b : Bool) → (when b then written_of x ∷ (changed xs ++ changed ys) else (changed xs ++ changed ys)) ≡ (when b then written_of x ∷ changed xs else changed xs) ++ changed ys
     go true = refl
     go false = refl
 
@@ -187,7 +187,7 @@ entry_length (Id i) n = refl
 
 -- a file if the node at a cursor changed
 pub record IfChanged (deck : Bytes) (c : Cursor) (f r : File) : Type 0 where
-  pub told : (pool : Bytes) → r ≡ (if local_modified (tree_at deck pool c).value then f else Absent)
+  pub told : (pool : Bytes) → r ≡ (when local_modified (tree_at deck pool c).value then f else Absent)
 
 -- the id of the file that the node at a cursor is, if it is one and changed
 pub record Files (deck : Bytes) (c : Cursor) (r : File) : Type 0 where

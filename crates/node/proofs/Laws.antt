@@ -6,7 +6,7 @@ use mathlib.Core.Bool.{Bool, true, false}
 use lib.ListN.{length}
 use lib.Dec.{eqb}
 use borrow.Author.Tests.{eq-eqb, ne_eqb}
-use Rattle.definition.specs.Base.{Bytes, if◌then◌else◌}
+use Rattle.definition.specs.Base.{Bytes, when◌then◌else◌}
 use Rattle.definition.specs.Records.{kind_at, record_of, record_at}
 use Rattle.definition.specs.Deck.{is_node}
 use Rattle.definition.specs.declared.Cursor.{Cursor}
@@ -70,7 +70,7 @@ module _ (deck : Bytes) (c : Cursor) (l : Lead) (k : ℕ) (f : k ≡ kind_at dec
       rw (← f, ne_eqb k 0x01 a, ne_eqb k 0x02 b, ne_eqb k 0x03 d, ne_eqb k 0x04 e, ne_eqb k 0x05 g, ne_eqb k 0x06 h, ne_eqb k 0x07 i, ne_eqb k 0x08 j, ne_eqb k 0x09 m)
       (sym (own 0x21 _ _ refl (own 0x22 _ _ refl (own 0x23 _ _ refl (own 0x24 _ _ refl refl)))))
     where
-      own : (n : ℕ) (x y : Record) → add_to x c l ≡ l → add_to y c l ≡ l → add_to (if eqb k n then x else y) c l ≡ l
+      own : (n : ℕ) (x y : Record) → add_to x c l ≡ l → add_to y c l ≡ l → add_to (when eqb k n then x else y) c l ≡ l
       own n x y = either (λ (r : Record). add_to r c l ≡ l) (eqb k n) {x = x} {y = y}
 
 -- ---- a head
@@ -133,7 +133,7 @@ module _ (deck : Bytes) (c : Cursor) (k : ℕ) (f : k ≡ kind_at deck c) where
       rw (← f, ne_eqb k 0x04 p, ne_eqb k 0x05 q, ne_eqb k 0x06 r)
       (sym (no 0x01 _ _ refl (no 0x02 _ _ refl (no 0x03 _ _ refl (no 0x07 _ _ refl (no 0x08 _ _ refl (no 0x09 _ _ refl (no 0x21 _ _ refl (no 0x22 _ _ refl (no 0x23 _ _ refl (no 0x24 _ _ refl refl)))))))))))
     where
-      no : (n : ℕ) (x y : Record) → is_comment x ≡ false → is_comment y ≡ false → is_comment (if eqb k n then x else y) ≡ false
+      no : (n : ℕ) (x y : Record) → is_comment x ≡ false → is_comment y ≡ false → is_comment (when eqb k n then x else y) ≡ false
       no n x y = either (λ (r : Record). is_comment r ≡ false) (eqb k n) {x = x} {y = y}
 
 module _ (deck : Bytes) where

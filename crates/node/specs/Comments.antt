@@ -5,7 +5,7 @@ use Rattle.std.proofs.Common.{◌∙◌, arith, ne_eqb}
 use Prim.Native.Nat.{ℕ, zero, suc, ◌+◌}
 use Rattle.std.proofs.Math.Bool.{true, false, not}
 use Rattle.std.proofs.Math.Option.{none, some}
-use Rattle.definition.specs.Base.{Bytes, if◌then◌else◌, is_nil, is_some}
+use Rattle.definition.specs.Base.{Bytes, when◌then◌else◌, is_nil, is_some}
 use Rattle.definition.specs.Records.{record_at, trailer_at}
 use Rattle.definition.specs.Tree.{Brought, Kind, node}
 use Rattle.definition.specs.Deck.{is_node, inline_of}
@@ -42,7 +42,7 @@ is_comment (is.Mapping g) = false
 -- some leading record, of n at most, is a comment
 unfoldable pub comment_from : Bytes → ℕ → Cursor → Bool
 comment_from deck zero c = false
-comment_from deck (suc n) c = let on = comment_from deck n (next_of deck c) in if is_node (record_at deck c) then false else (is_comment (record_at deck c) || on)
+comment_from deck (suc n) c = let on = comment_from deck n (next_of deck c) in when is_node (record_at deck c) then false else (is_comment (record_at deck c) || on)
 
 or-none : (x : Bool) → x ≡ (x || false)
 or-none true = refl
@@ -85,8 +85,8 @@ module _ (deck : Bytes) where
     where
       go :
           (b : Bool) → commented (head_from deck n (add_to (record_at deck c) c l) (next_of deck c)).lead ≡ (commented (add_to (record_at deck c) c l) || comment_from deck n (next_of deck c)) →
-          commented (if b then headed deck l c else head_from deck n (add_to (record_at deck c) c l) (next_of deck c)).lead
-          ≡ (commented l || (if b then false else (is_comment (record_at deck c) || comment_from deck n (next_of deck c))))
+          commented (when b then headed deck l c else head_from deck n (add_to (record_at deck c) c l) (next_of deck c)).lead
+          ≡ (commented l || (when b then false else (is_comment (record_at deck c) || comment_from deck n (next_of deck c))))
       go true e = or-none (commented l)
       go false e = e ∙ rw (added (record_at deck c) c l) (or-group (commented l) (is_comment (record_at deck c)) (comment_from deck n (next_of deck c)))
 
@@ -106,7 +106,7 @@ module _ (deck pool : Bytes) where
   unfolding remark_of is_some
   some-remark m = go (eqb m.at 0)
     where
-      go : (b : Bool) → is_some (if b then none else some (inline_of pool (trailer_at deck m.at))) ≡ not b
+      go : (b : Bool) → is_some (when b then none else some (inline_of pool (trailer_at deck m.at))) ≡ not b
       go true = refl
       go false = refl
 

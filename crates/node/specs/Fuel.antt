@@ -9,7 +9,7 @@ use Rattle.std.proofs.Math.Bool.{true, false}
 use Rattle.std.proofs.Math.ListN.{length, get_or-eq_default}
 use Rattle.std.proofs.Math.Dec.{eqb, ltb}
 use borrow.Author.Tests.{ltb-true, ltb-false, leb-true, leb-false, eqb-true, eqb-false}
-use Rattle.definition.specs.Base.{Bytes, if◌then◌else◌}
+use Rattle.definition.specs.Base.{Bytes, when◌then◌else◌}
 use Rattle.definition.specs.Records.{byte_at, kind_at, record_at, size_of, past}
 use Rattle.definition.specs.Tree.{Kept, Brought, Node, Kind, node, null, scalar, alias}
 use Rattle.definition.specs.Deck.{is_node, words}
@@ -102,7 +102,7 @@ module _ (deck : Bytes) where
     where
       go :
           (b : Bool) → Onward deck (next_of deck c) (head_from deck n (add_to (record_at deck c) c l) (next_of deck c)) →
-          Onward deck c (if b then headed deck l c else head_from deck n (add_to (record_at deck c) c l) (next_of deck c))
+          Onward deck c (when b then headed deck l c else head_from deck n (add_to (record_at deck c) c l) (next_of deck c))
       go true o = headed-onward l c k
       go false o =
           record { ahead = (let p = o.ahead in let q = next-onward c k in omega arith); beyond = o.beyond; within = o.within; own = o.own; next = o.next; kids = o.kids }
@@ -138,7 +138,7 @@ module _ (deck : Bytes) where
     where
       go :
           (b : Bool) → (head_from deck n (add_to (record_at deck c) c l) (next_of deck c)).place ≡ (head_from deck n (add_to (record_at deck c) c m) (next_of deck c)).place →
-          (if b then headed deck l c else head_from deck n (add_to (record_at deck c) c l) (next_of deck c)).place ≡ (if b then headed deck m c else head_from deck n (add_to (record_at deck c) c m) (next_of deck c)).place
+          (when b then headed deck l c else head_from deck n (add_to (record_at deck c) c l) (next_of deck c)).place ≡ (when b then headed deck m c else head_from deck n (add_to (record_at deck c) c m) (next_of deck c)).place
       go true e = refl
       go false e = e
 

@@ -2,7 +2,7 @@
 -- definitions.
 use Rattle.std.specs.Prelude.{ℕ, zero, suc, ◌+◌, ◌-◌, List, [], ◌∷◌, length, eqb, leb}
 use Rattle.std.proofs.Math.Option.{Option, none, some}
-use Rattle.definition.specs.Base.{Bytes, if◌then◌else◌}
+use Rattle.definition.specs.Base.{Bytes, when◌then◌else◌}
 use Rattle.definition.specs.Records.{text_at, include_at, heading_at, trailer_at}
 use Rattle.definition.specs.Tree.{Source, Inline, Kept, Brought, Node, Nodes, Pairs, node, null, scalar, alias, sequence, mapping, end, item, close, pair}
 use Rattle.definition.specs.Tree as tree
@@ -19,13 +19,13 @@ use Rattle.node.specs.Head.{Head, head_at}
 -- ---- what a head says of its node
 
 unfoldable pub held_of : Bytes → Bytes → Held → Option Bytes
-held_of deck pool h = if eqb h.at 0 then none else some (words pool (text_at deck h.at))
+held_of deck pool h = when eqb h.at 0 then none else some (words pool (text_at deck h.at))
 
 unfoldable pub origin_of : Bytes → Bytes → Origin → Option Source
-origin_of deck pool o = if eqb o.at 0 then none else some (source_of pool (include_at deck o.at))
+origin_of deck pool o = when eqb o.at 0 then none else some (source_of pool (include_at deck o.at))
 
 unfoldable pub remark_of : Bytes → Bytes → Remark → Option Inline
-remark_of deck pool m = if eqb m.at 0 then none else some (inline_of pool (trailer_at deck m.at))
+remark_of deck pool m = when eqb m.at 0 then none else some (inline_of pool (trailer_at deck m.at))
 
 -- n entries, s bytes apart
 unfoldable pub run_from : {A : Type 0} → (Cursor → A) → ℕ → ℕ → Cursor → List A
@@ -119,7 +119,7 @@ trees_from deck pool zero c = []
 trees_from deck pool (suc n) c =
     let x = tree_at deck pool c in
     let r = x.value ∷ trees_from deck pool n x.next in
-    if leb (length deck) c.at then [] else r
+    when leb (length deck) c.at then [] else r
 
 unfoldable pub trees_of : Bytes → Bytes → List Node
 trees_of deck pool = trees_from deck pool (length deck) (record { at = 0 })

@@ -1,7 +1,7 @@
 -- Stretches of the walk's lines that are written together.
 use Rattle.std.specs.Prelude.{ℕ, Bool, true, false, [], ◌∷◌}
 use Rattle.std.proofs.Math.Option.{Option}
-use Rattle.definition.specs.Base.{Bytes, if◌then◌else◌}
+use Rattle.definition.specs.Base.{Bytes, when◌then◌else◌}
 use Rattle.definition.specs.Ascii.{SP, '&'}
 use Rattle.definition.specs.Tree.{Source, Inline, Kept, Brought}
 use Rattle.definition.specs.Pen.{directive, Script, put, comment, end_line, ◌>>◌, newline, indent}
@@ -9,7 +9,7 @@ use Rattle.definition.specs.Walk.{blanks, heads, heads_below, above_dash, below_
 
 -- a byte, or none
 abbrev pub only : Bool → ℕ → Bytes
-only wanted b = if wanted then b ∷ [] else []
+only wanted b = when wanted then b ∷ [] else []
 
 -- a tag and an anchor, each with its space
 unfoldable pub props_of : Option Bytes → Option Bytes → Script

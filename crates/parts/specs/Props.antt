@@ -2,7 +2,7 @@
 use Rattle.std.specs.Prelude.{◌≡◌, refl, Bool, true, false, not, ◌||◌, ◌&&◌, eqb}
 use Rattle.std.proofs.Common.{sym, ◌∙◌, true≢false}
 use Rattle.std.proofs.Math.Option.{Option, none, some}
-use Rattle.definition.specs.Base.{Bytes, if◌then◌else◌, is_some}
+use Rattle.definition.specs.Base.{Bytes, when◌then◌else◌, is_some}
 use Rattle.definition.specs.Records.{text_at}
 use Rattle.definition.specs.Deck.{words}
 use Rattle.definition.specs.Pen.{nothing}
@@ -22,7 +22,7 @@ pub held-some : (deck pool : Bytes) (h : Held) → is_some (held_of deck pool h)
 unfolding has_held held_of is_some
 held-some deck pool h = go (eqb h.at 0)
   where
-    go : (b : Bool) → is_some (if b then none else some (words pool (text_at deck h.at))) ≡ not b
+    go : (b : Bool) → is_some (when b then none else some (words pool (text_at deck h.at))) ≡ not b
     go true = refl
     go false = refl
 

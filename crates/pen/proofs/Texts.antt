@@ -9,7 +9,7 @@ use lib.Seq.{sets, drop-cons, take-nil, set_out, get_or-set_other}
 use lib.Dec.{eqb, leb}
 use borrow.Author.Tests.{leb-true, leb-false, le-leb, lt-leb}
 use mathlib.Core.Bool.{Bool, true, false, not, true≢false}
-use Rattle.definition.specs.Base.{Bytes, if◌then◌else◌}
+use Rattle.definition.specs.Base.{Bytes, when◌then◌else◌}
 use Rattle.pen.specs.Pen.{Fields, Pen, page, moved, put_to, at_column, next_column, column_after, column_over, column_past, put1, puts}
 
 -- ---- room
@@ -92,8 +92,8 @@ past-step : (w : Fields) (most b : ℕ) (t : Bytes) → column_past w most (b �
 unfolding column_past column_after column_over
 past-step w most b t = go (eqb w.tracks 0)
   where
-    go : (k : Bool) → (if k then w.column else column_over most (next_column most w.column b) t)
-        ≡ (if k then (if k then w.column else next_column most w.column b) else column_over most (if k then w.column else next_column most w.column b) t)
+    go : (k : Bool) → (when k then w.column else column_over most (next_column most w.column b) t)
+        ≡ (when k then (when k then w.column else next_column most w.column b) else column_over most (when k then w.column else next_column most w.column b) t)
     go true = refl
     go false = refl
 
@@ -103,7 +103,7 @@ module _ (w : Fields) (most : ℕ) (t : Bytes) (k : Bool) (e : k ≡ not (eqb w.
   unfolding column_past
   past-kept c₀ c f g h = go (eqb w.tracks 0) (sym f ∙ e)
     where
-      go : (d : Bool) → true ≡ not d → at_column c w ≡ at_column (if d then w.column else column_over most w.column t) w
+      go : (d : Bool) → true ≡ not d → at_column c w ≡ at_column (when d then w.column else column_over most w.column t) w
       go true q = absurd (true≢false q)
       go false q = ap (λ (x : ℕ). at_column x w) (h ∙ rw g)
 
@@ -111,7 +111,7 @@ module _ (w : Fields) (most : ℕ) (t : Bytes) (k : Bool) (e : k ≡ not (eqb w.
   unfolding column_past
   past-none f = go (eqb w.tracks 0) (sym f ∙ e)
     where
-      go : (d : Bool) → false ≡ not d → w ≡ at_column (if d then w.column else column_over most w.column t) w
+      go : (d : Bool) → false ≡ not d → w ≡ at_column (when d then w.column else column_over most w.column t) w
       go true q = refl
       go false q = absurd (true≢false (sym q))
 

@@ -1,7 +1,7 @@
 -- What a function that writes does: it draws a script. The pen at exit is what the script makes of the pen at entry, under any settings.
 use Rattle.std.specs.Prelude.{◌≡◌, refl, ℕ, Bool, true, false, [], ◌∷◌}
 use Rattle.std.proofs.Common.{ap, ◌∙◌}
-use Rattle.definition.specs.Base.{Bytes, if◌then◌else◌}
+use Rattle.definition.specs.Base.{Bytes, when◌then◌else◌}
 use Rattle.definition.specs.Pen.{Ink, Script, put, end_line, ◌>>◌, nothing}
 use Rattle.definition.specs.declared.Settings.{Settings}
 use Rattle.pen.specs.Pen.{Pen, put1, puts, line_ended, ink}
@@ -31,8 +31,8 @@ unfolding ink puts nothing
 stays = record { drawn = λ s. refl }
 
 -- where a test decides
-pub draws-yes : {P Q : Pen} (t : Bool) (a b : Script) → t ≡ true → Draws a P Q → Draws (if t then a else b) P Q
+pub draws-yes : {P Q : Pen} (t : Bool) (a b : Script) → t ≡ true → Draws a P Q → Draws (when t then a else b) P Q
 draws-yes t a b e d = rw e d
 
-pub draws-no : {P Q : Pen} (t : Bool) (a b : Script) → t ≡ false → Draws b P Q → Draws (if t then a else b) P Q
+pub draws-no : {P Q : Pen} (t : Bool) (a b : Script) → t ≡ false → Draws b P Q → Draws (when t then a else b) P Q
 draws-no t a b e d = rw e d

@@ -3,7 +3,7 @@
 use Rattle.std.specs.Prelude.{ℕ, ◌+◌, ◌-◌, ◌/◌, ◌%◌, min, ◌≡◌, refl, [], ◌∷◌, ◌++◌, length, get_or, set, eqb}
 use Rattle.std.proofs.Common.{sym, ap, ◌∙◌}
 use Rattle.std.proofs.Math.Option.{Option, none, some}
-use Rattle.definition.specs.Base.{Bytes, if◌then◌else◌}
+use Rattle.definition.specs.Base.{Bytes, when◌then◌else◌}
 use Rattle.definition.specs.Ascii.{LF}
 use Rattle.definition.specs.Scalar.{separator}
 use Rattle.definition.specs.Tree.{Inline}
@@ -95,7 +95,7 @@ pen w o = page (fields w) o
 
 -- the column after a byte at a column, `most` at most; after a text
 abbrev pub next_column : ℕ → ℕ → ℕ → ℕ
-next_column most c b = if eqb b LF then 0 else min (c + 1) most
+next_column most c b = when eqb b LF then 0 else min (c + 1) most
 
 unfoldable pub column_over : ℕ → ℕ → Bytes → ℕ
 column_over most c [] = c
@@ -103,10 +103,10 @@ column_over most c (b ∷ t) = column_over most (next_column most c b) t
 
 -- the same of a writer, which may keep no columns
 unfoldable pub column_after : Fields → ℕ → ℕ → ℕ
-column_after w most b = if eqb w.tracks 0 then w.column else next_column most w.column b
+column_after w most b = when eqb w.tracks 0 then w.column else next_column most w.column b
 
 unfoldable pub column_past : Fields → ℕ → Bytes → ℕ
-column_past w most t = if eqb w.tracks 0 then w.column else column_over most w.column t
+column_past w most t = when eqb w.tracks 0 then w.column else column_over most w.column t
 
 -- one byte: stored where there is room, else only counted
 unfoldable pub put1 : Pen → ℕ → Pen
@@ -130,17 +130,17 @@ and_then p a b e f = f ∙ ap (puts b) e ∙ sym (puts-append a b p)
 -- ---- the steps that look at the writer
 
 unfoldable pub line_ended : Pen → Pen
-line_ended p = if eqb p.w.last LF then p else put1 p LF
+line_ended p = when eqb p.w.last LF then p else put1 p LF
 
 -- the inline comment of the node at a place, unless it was the last one written
 unfoldable pub noted : ℕ → Inline → Pen → Pen
 noted place c p =
     let q = puts (inline_text c) p in
-    if eqb p.w.inline (place + 1) then p else page (with_inline (place + 1) q.w) q.out
+    when eqb p.w.inline (place + 1) then p else page (with_inline (place + 1) q.w) q.out
 
 -- a raw text, and where it ended if it has no line break there
 unfoldable pub rawed : Bytes → Pen → Pen
-rawed t p = let q = puts t p in if ends_closed t then q else page (with_raw (q.w.len + 1) q.w) q.out
+rawed t p = let q = puts t p in when ends_closed t then q else page (with_raw (q.w.len + 1) q.w) q.out
 
 -- the byte put last, taken away again
 unfoldable pub unput : Pen → Pen
@@ -148,7 +148,7 @@ unput p = page (moved p.w (p.w.len - 1) p.w.last p.w.under p.w.column) (set p.ou
 
 -- `finish`: the last line break is dropped, if it directly follows a raw text that has none of its own
 unfoldable pub ended : Pen → Pen
-ended p = if eqb p.w.raw 0 then p else if eqb p.w.len p.w.raw then (if eqb p.w.last LF then unput p else p) else p
+ended p = when eqb p.w.raw 0 then p else when eqb p.w.len p.w.raw then (when eqb p.w.last LF then unput p else p) else p
 
 -- ---- flow depth and key mark
 

@@ -8,7 +8,7 @@ use Rattle.std.proofs.Math.Bool.{true, false}
 use mathlib.Core.List.{[], ◌∷◌, ◌++◌, reverse, reverse_aux, reverse-cons}
 use Rattle.std.proofs.Math.Option.{Option, none, some}
 use Rattle.std.proofs.Math.ListN.{length-set, length-reverse}
-use Rattle.definition.specs.Base.{Bytes, if◌then◌else◌}
+use Rattle.definition.specs.Base.{Bytes, when◌then◌else◌}
 use Rattle.definition.specs.Ascii.{LF}
 use Rattle.definition.specs.Utf8.{well_formed}
 use Rattle.definition.specs.Fold.{Weight, column}
@@ -103,7 +103,7 @@ unfolding column
 column-short [] = omega arith
 column-short (b ∷ out) = go (eqb b LF) (column-short out)
   where
-    go : (t : Bool) → column one out ≤ length out → (if t then 0 else 1 + column one out) ≤ suc (length out)
+    go : (t : Bool) → column one out ≤ length out → (when t then 0 else 1 + column one out) ≤ suc (length out)
     go true h = omega arith
     go false h = omega arith
 
@@ -112,7 +112,7 @@ column-after : (w : Fields) (out : Bytes) (most b : ℕ) → (w.tracks ≡ 0 →
 unfolding column_after column
 column-after w out most b t e h = rw (ne_eqb _ _ t, e) (go (eqb b LF))
   where
-    go : (t : Bool) → (if t then 0 else min (column one out + 1) most) ≡ (if t then 0 else 1 + column one out)
+    go : (t : Bool) → (when t then 0 else min (column one out + 1) most) ≡ (when t then 0 else 1 + column one out)
     go true = refl
     go false = let k = column-short out in omega arith
 
@@ -194,21 +194,21 @@ texts-show t u orig k p x h e = go (ltb (length orig + 2) (length x.out)) refl
 
 -- `end_line` is a text
 unfoldable break_or : Bool → Bytes
-break_or b = if b then [] else LF ∷ []
+break_or b = when b then [] else LF ∷ []
 
 line-puts : (p : Pen) → line_ended p ≡ puts (break_or (eqb p.w.last LF)) p
 unfolding line_ended break_or puts
 line-puts p = go (eqb p.w.last LF)
   where
-    go : (b : Bool) → (if b then p else put1 p LF) ≡ puts (if b then [] else LF ∷ []) p
+    go : (b : Bool) → (when b then p else put1 p LF) ≡ puts (when b then [] else LF ∷ []) p
     go true = refl
     go false = refl
 
-line_write : (x : St) → (if at_line_start x.out then x else write (LF ∷ []) x) ≡ write (break_or (at_line_start x.out)) x
+line_write : (x : St) → (when at_line_start x.out then x else write (LF ∷ []) x) ≡ write (break_or (at_line_start x.out)) x
 unfolding break_or write
 line_write x = go (at_line_start x.out)
   where
-    go : (b : Bool) → (if b then x else write (LF ∷ []) x) ≡ write (if b then [] else LF ∷ []) x
+    go : (b : Bool) → (when b then x else write (LF ∷ []) x) ≡ write (when b then [] else LF ∷ []) x
     go true = refl
     go false = refl
 
@@ -217,7 +217,7 @@ unfolding head_or at_line_start
 line-last [] = refl
 line-last (b ∷ out) = refl
 
-line-shows : (orig : Bytes) (k : ℕ) (p : Pen) (x : St) → Shows orig k p x → Shows orig k (line_ended p) (if at_line_start x.out then x else write (LF ∷ []) x)
+line-shows : (orig : Bytes) (k : ℕ) (p : Pen) (x : St) → Shows orig k p x → Shows orig k (line_ended p) (when at_line_start x.out then x else write (LF ∷ []) x)
 line-shows orig k p x h =
     rw (line-puts p, line_write x)
     (texts-show _ _ orig k p x h (λ l. ap break_or (ap (λ (b : ℕ). eqb b LF) (h.exact l).last ∙ line-last x.out)))
@@ -246,23 +246,23 @@ inline-shows orig k q y m h = record {
 
 -- two pens and two states, of which each pair may be the one: past the room it does not matter which
 either-shows : (orig : Bytes) (k : ℕ) (p q : Pen) (x y : St) → Shows orig k p x → Shows orig k q y → length orig + 2 < length x.out → length orig + 2 < length y.out → (a b : Bool)
-    → Shows orig k (if a then p else q) (if b then x else y)
+    → Shows orig k (when a then p else q) (when b then x else y)
 either-shows orig k p q x y h g l m true true = h
 either-shows orig k p q x y h g l m true false = full-shows orig k p y h.size h.tracks (h.len ∙ omega arith) m
 either-shows orig k p q x y h g l m false true = full-shows orig k q x g.size g.tracks (g.len ∙ omega arith) l
 either-shows orig k p q x y h g l m false false = g
 
 if-shows : (orig : Bytes) (k : ℕ) (p q : Pen) (x y : St) → Shows orig k p x → Shows orig k q y → length x.out ≤ length y.out → (a b : Bool) → (length x.out ≤ length orig + 2 → a ≡ b)
-    → Shows orig k (if a then p else q) (if b then x else y)
+    → Shows orig k (when a then p else q) (when b then x else y)
 if-shows orig k p q x y h g l a b e = go (ltb (length orig + 2) (length x.out)) refl
   where
-    same : (a : Bool) → Shows orig k (if a then p else q) (if a then x else y)
+    same : (a : Bool) → Shows orig k (when a then p else q) (when a then x else y)
     same true = h
     same false = g
 
-    go : (t : Bool) → ltb (length orig + 2) (length x.out) ≡ t → Shows orig k (if a then p else q) (if b then x else y)
+    go : (t : Bool) → ltb (length orig + 2) (length x.out) ≡ t → Shows orig k (when a then p else q) (when b then x else y)
     go true t = let f : length orig + 2 < length x.out = ltb-true _ _ t in either-shows orig k p q x y h g f (omega arith) a b
-    go false t = subst (λ (b : Bool). Shows orig k (if a then p else q) (if b then x else y)) (e (ltb-false _ _ t)) (same a)
+    go false t = subst (λ (b : Bool). Shows orig k (when a then p else q) (when b then x else y)) (e (ltb-false _ _ t)) (same a)
 
 note-shows : (orig : Bytes) (k place : ℕ) (c : Inline) (p : Pen) (x : St) → Shows orig k p x → Shows orig k (noted place c p) (commented place (some c) x)
 unfolding noted commented marked write
@@ -296,8 +296,8 @@ replay-shows orig k t p x h = go (ends_closed t)
     done : Shows orig k (puts t p) (write t x)
     done = puts-shows t orig k p x h
 
-    go : (b : Bool) → Shows orig k (if b then puts t p else page (with_raw ((puts t p).w.len + 1) (puts t p).w) (puts t p).out)
-        (record { out = reverse_aux t x.out; inline = x.inline; raw_end = if b then x.raw_end else some (length (reverse_aux t x.out)) })
+    go : (b : Bool) → Shows orig k (when b then puts t p else page (with_raw ((puts t p).w.len + 1) (puts t p).w) (puts t p).out)
+        (record { out = reverse_aux t x.out; inline = x.inline; raw_end = when b then x.raw_end else some (length (reverse_aux t x.out)) })
     go true = unfold write in done
     go false = unfold write raw_ended in raw-shows orig k (puts t p) (write t x) done
 
@@ -358,13 +358,13 @@ module _ (s : Settings) where
 
 -- columns are kept where lines are folded
 unfoldable pub keeps : ℕ → ℕ
-keeps width = if eqb width 0 then 0 else 1
+keeps width = when eqb width 0 then 0 else 1
 
 keeps-none : (width : ℕ) → keeps width ≡ 0 → width ≡ 0
 unfolding keeps
 keeps-none width = go (eqb width 0) refl
   where
-    go : (b : Bool) → eqb width 0 ≡ b → ◌≡◌ {A = ℕ} (if b then 0 else 1) 0 → width ≡ 0
+    go : (b : Bool) → eqb width 0 ≡ b → ◌≡◌ {A = ℕ} (when b then 0 else 1) 0 → width ≡ 0
     go true e h = eqb-true width 0 e
     go false e h = absurd (omega arith)
 
@@ -425,12 +425,12 @@ ended-exact orig k p (b ∷ o) m (some q) h l =
     n : p.w.len ≡ suc (length o)
     n = (stays orig k p _ h l).len
 
-    go : (c d : Bool) → eqb (length o) q ≡ d → Ends orig (if eqb p.w.len p.w.raw then (if c then unput p else p) else p) (if c && d then o else b ∷ o)
+    go : (c d : Bool) → eqb (length o) q ≡ d → Ends orig (when eqb p.w.len p.w.raw then (when c then unput p else p) else p) (when c && d then o else b ∷ o)
     go true true e = rw (eq-eqb p.w.len p.w.raw (let z = eqb-true (length o) q e in omega (arith, r, n))) (unput-ends orig k p b o m (some q) h l)
     go true false e = rw (ne_eqb p.w.len p.w.raw (λ (z : p.w.len ≡ p.w.raw). true≢false (sym (eq-eqb (length o) q (omega (arith, r, n))) ∙ e))) (stays orig k p _ h l)
     go false d e = both (eqb p.w.len p.w.raw)
       where
-        both : (t : Bool) → Ends orig (if t then p else p) (b ∷ o)
+        both : (t : Bool) → Ends orig (when t then p else p) (b ∷ o)
         both true = stays orig k p _ h l
         both false = stays orig k p _ h l
 
@@ -445,7 +445,7 @@ ended-full p m h = go (eqb p.w.raw 0) (eqb p.w.len p.w.raw) (eqb p.w.last LF)
     drop : m < (unput p).w.len
     drop = unfold unput in omega (arith, h)
 
-    go : (a b c : Bool) → m < (if a then p else (if b then (if c then unput p else p) else p)).w.len
+    go : (a b c : Bool) → m < (when a then p else (when b then (when c then unput p else p) else p)).w.len
     go true b c = stay
     go false false c = stay
     go false true true = drop
@@ -455,7 +455,7 @@ ended-size : (p : Pen) → length (ended p).out ≡ length p.out
 unfolding ended
 ended-size p = go (eqb p.w.raw 0) (eqb p.w.len p.w.raw) (eqb p.w.last LF)
   where
-    go : (a b c : Bool) → length (if a then p else (if b then (if c then unput p else p) else p)).out ≡ length p.out
+    go : (a b c : Bool) → length (when a then p else (when b then (when c then unput p else p) else p)).out ≡ length p.out
     go true b c = refl
     go false false c = refl
     go false true true = unfold unput in length-set p.out (p.w.len - 1) p.w.under
@@ -467,7 +467,7 @@ finished-less none o = omega arith
 finished-less (some e) [] = omega arith
 finished-less (some e) (b ∷ o) = go (eqb b LF && eqb (length o) e)
   where
-    go : (t : Bool) → suc (length o) ≤ suc (length (if t then o else b ∷ o))
+    go : (t : Bool) → suc (length o) ≤ suc (length (when t then o else b ∷ o))
     go true = omega arith
     go false = omega arith
 

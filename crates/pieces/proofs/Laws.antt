@@ -8,7 +8,7 @@ use lib.ListN.{length, get_or, drop}
 use lib.Seq.{drop-cons, get_or-drop}
 use lib.Dec.{ltb, leb, eqb}
 use borrow.Author.Tests.{eqb-true, eq-eqb, ne_eqb, ltb-true, lt-ltb, le-ltb, le-leb, not-true}
-use Rattle.definition.specs.Base.{Bytes, if◌then◌else◌, within}
+use Rattle.definition.specs.Base.{Bytes, when◌then◌else◌, within}
 use Rattle.definition.specs.Char.{non_printable}
 use Rattle.definition.specs.Quote.{digit, hex2, hex4, escaped}
 use Rattle.laws.specs.Tests.{below-it, by-test}
@@ -33,7 +33,7 @@ digits d h = eqb-true _ _ (all (λ k. eqb (get_or table k 0) (digit k)) 16 refl 
 -- how the program spells a character below 80
 abbrev ascii_by : ℕ → Bytes
 ascii_by a =
-    if eqb (letter_of a) 0 then (if non_printable a then 92 ∷ 120 ∷ hex2 a else a ∷ [])
+    when eqb (letter_of a) 0 then (when non_printable a then 92 ∷ 120 ∷ hex2 a else a ∷ [])
     else 92 ∷ letter_of a ∷ []
 
 ascii_by-escaped : (a : ℕ) → a < 0x80 → ascii_by a ≡ escaped a (a ∷ [])
@@ -111,7 +111,7 @@ unfolding digit hex2 hex4
 wide-digits c l h =
     equal_is _ _
     (apply (leb 0xbe c) (equal (hex4 (0xff40 + c)) (hex2 0xff ++ hex2 (c + 0x40)))
-    (all (λ k. if leb 0xbe k then equal (hex4 (0xff40 + k)) (hex2 0xff ++ hex2 (k + 0x40)) else true) 0xc0 refl c (omega arith)) (le-leb 0xbe c l))
+    (all (λ k. when leb 0xbe k then equal (hex4 (0xff40 + k)) (hex2 0xff ++ hex2 (k + 0x40)) else true) 0xc0 refl c (omega arith)) (le-leb 0xbe c l))
 
 -- ---- bytes that are written as they are
 
@@ -122,14 +122,14 @@ own-single a stop false n e t = absurd (false≢true e)
 
 -- a character below 80 that has no escape
 abbrev unescaped : ℕ → Bool
-unescaped a = if ltb a 0x20 then false else (if eqb a 34 then false else (if eqb a 92 then false else (if eqb a 0x7f then false else true)))
+unescaped a = when ltb a 0x20 then false else (when eqb a 34 then false else (when eqb a 92 then false else (when eqb a 0x7f then false else true)))
 
 ascii-own : (a : ℕ) → a < 0x80 → unescaped a ≡ true → escaped a (a ∷ []) ≡ a ∷ []
 unfolding escaped non_printable within digit hex2 hex4
 ascii-own a h e =
     equal_is _ _
     (apply (unescaped a) (equal (escaped a (a ∷ [])) (a ∷ []))
-    (all (λ k. if unescaped k then equal (escaped k (k ∷ [])) (k ∷ []) else true) 0x80 refl a h) e)
+    (all (λ k. when unescaped k then equal (escaped k (k ∷ [])) (k ∷ []) else true) 0x80 refl a h) e)
 
 pub own-double : (a stop : ℕ) (d : Bool) → (a ≡ stop → ⊥) → d ≡ false → 0x20 ≤ a → (a ≡ 34 → ⊥) → (a ≡ 92 → ⊥) → (a ≡ 0x7f → ⊥) → (a ≡ 0xc2 → ⊥) → not (eqb a 0xef) ≡ true
     → Own (quote_by d) stop a

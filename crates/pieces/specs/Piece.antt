@@ -1,7 +1,7 @@
 -- What the program keeps of a piece of a quoted body: its kind, and what it spells.
 use Rattle.std.specs.Prelude.{ℕ, ◌+◌, ◌≤◌, ◌≡◌, get_or, eqb, [], ◌∷◌}
 use Rattle.std.proofs.Common.{arith}
-use Rattle.definition.specs.Base.{Bytes, if◌then◌else◌}
+use Rattle.definition.specs.Base.{Bytes, when◌then◌else◌}
 use Rattle.laws.specs.Pieces.{Quote}
 use Rattle.definition.specs.Quote.{hex2, hex4}
 use Rattle.pieces.specs.declared.Piece.{Piece}
@@ -33,12 +33,12 @@ beside-few (Wide c) = omega arith
 -- the letter of a short escape, 0 where there is none
 unfoldable pub letter_of : ℕ → ℕ
 letter_of a =
-    if eqb a 0 then 48
-    else if eqb a 9 then 116
-    else if eqb a 10 then 110
-    else if eqb a 13 then 114
-    else if eqb a 34 then 34
-    else if eqb a 92 then 92
+    when eqb a 0 then 48
+    else when eqb a 9 then 116
+    else when eqb a 10 then 110
+    else when eqb a 13 then 114
+    else when eqb a 34 then 34
+    else when eqb a 92 then 92
     else 0
 
 -- a `\u` is of FFFE or FFFF

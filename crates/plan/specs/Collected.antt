@@ -6,7 +6,7 @@ use Rattle.std.proofs.Math.Bool.{true, false}
 use Rattle.std.proofs.Math.Dec.{ltb}
 use Rattle.std.proofs.Math.ListN.{length}
 use borrow.Author.Tests.{lt-ltb, le-ltb, ltb-true, ltb-false}
-use Rattle.definition.specs.Base.{Bytes, if◌then◌else◌}
+use Rattle.definition.specs.Base.{Bytes, when◌then◌else◌}
 use Rattle.definition.specs.Settings.{plain_settings}
 use Rattle.definition.specs.Change.{Written, collect}
 use Rattle.definition.specs.Calls.{Lent, Outcome, no_change, no_room, answered, handed, entries, bytes_of_all, write_changed}
@@ -156,7 +156,7 @@ module _ (x : Lent) where
       where
         go :
             (b : Bool) → ltb n (length ws) ≡ b
-            → finished d p n (if b then early 9 0 1 else onward (length ws)) (fill_of d p (if b then early 9 0 1 else onward (length ws)) x.output x.list) ≡ write_changed x
+            → finished d p n (when b then early 9 0 1 else onward (length ws)) (fill_of d p (when b then early 9 0 1 else onward (length ws)) x.output x.list) ≡ write_changed x
         go true e = crowded (ltb-true _ _ e)
         go false e = went (ltb-false _ _ e)
 

@@ -1,6 +1,6 @@
 -- What is decided before the list is filled, and what after: as equations, by which the call is the definition's.
 use Rattle.std.specs.Prelude.{◌≡◌, ℕ, ◌≤◌, Bool, false, ◌&&◌, ◌||◌, eqb, ltb, length, replicate}
-use Rattle.definition.specs.Base.{Bytes, if◌then◌else◌}
+use Rattle.definition.specs.Base.{Bytes, when◌then◌else◌}
 use Rattle.definition.specs.Settings.{plain_settings}
 use Rattle.definition.specs.Change.{collect}
 use Rattle.node.specs.Total.{trees_of}
@@ -32,7 +32,7 @@ onward k = record { answer = refusal 0 0; first = front; stores = k; stage = 2 }
 unfoldable pub counted : Bytes → Bytes → ℕ → Plan
 counted deck pool entries =
     let k = length (collect (trees_of deck pool)) in
-    if ltb entries k then early 9 0 1 else onward k
+    when ltb entries k then early 9 0 1 else onward k
 
 unfoldable pub planned : Bytes → Bytes → ℕ → Verdict → Plan
 planned deck pool entries (verdict.Good n) = counted deck pool entries
@@ -55,11 +55,11 @@ is_late room p end = eqb p.stage 1 || (eqb p.stage 2 && ltb room end.start)
 unfoldable pub answer_after : ℕ → Plan → Walk → Answer
 answer_after room p end =
     let wrote : Answer = record { number = 0; place = 0; length = end.start; count = p.stores; modified = false } in
-    if eqb p.stage 2 then (if ltb room end.start then refusal 10 0 else wrote) else p.answer
+    when eqb p.stage 2 then (when ltb room end.start then refusal 10 0 else wrote) else p.answer
 
 unfoldable pub settled_of : Bytes → Plan → Walk → ℕ → Plan
 settled_of out p end entries =
-    record { answer = answer_after (length out) p end; first = nowhere; stores = if is_late (length out) p end then entries else 0; stage = 0 }
+    record { answer = answer_after (length out) p end; first = nowhere; stores = when is_late (length out) p end then entries else 0; stage = 0 }
 
 unfoldable pub cleared_of : Bytes → Plan → Walk → Bytes
-cleared_of out p end = if is_late (length out) p end then replicate (length out) 0 else out
+cleared_of out p end = when is_late (length out) p end then replicate (length out) 0 else out

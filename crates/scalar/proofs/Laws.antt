@@ -9,7 +9,7 @@ use lib.ListN.{length, get_or, drop}
 use lib.Seq.{drop-cons, get_or-drop}
 use lib.Dec.{eqb, ltb}
 use borrow.Author.Tests.{ne_eqb, le-ltb, lt-ltb}
-use Rattle.definition.specs.Base.{Bytes, if◌then◌else◌, any, has, within}
+use Rattle.definition.specs.Base.{Bytes, when◌then◌else◌, any, has, within}
 use Rattle.definition.specs.Ascii.{':', SP}
 use Rattle.definition.specs.Char.{non_printable}
 use Rattle.definition.specs.Fold.{size}
@@ -26,7 +26,7 @@ use Rattle.scalar.specs.Tests.{some_at, refused_at, flow_mark, unsafe_at}
 -- ---- a test at each place
 
 module _ (d : ℕ) (f : ℕ → ℕ → ℕ → Bool) (s : Bytes) (i : ℕ) (h : i < length s) where
-  place : some_at d f (drop i s) ≡ (if f (get_or s i d) (get_or s (i + 1) d) (get_or s (i + 2) d) then true else some_at d f (drop (i + 1) s))
+  place : some_at d f (drop i s) ≡ (when f (get_or s i d) (get_or s (i + 1) d) (get_or s (i + 2) d) then true else some_at d f (drop (i + 1) s))
   unfolding some_at
   place =
       let x : get_or (drop (suc i) s) 0 d ≡ get_or s (i + 1) d = get_or-drop (suc i) s 0 d ∙ ap (λ (n : ℕ). get_or s n d) (omega arith) in
@@ -50,7 +50,7 @@ any-or f g [] = refl
 any-or f g (a ∷ s) = go (f a) (g a) (any-or f g s)
   where
     go : (x y : Bool) → any (λ a. f a || g a) s ≡ (any f s || any g s)
-        → (if x || y then true else any (λ a. f a || g a) s) ≡ ((if x then true else any f s) || (if y then true else any g s))
+        → (when x || y then true else any (λ a. f a || g a) s) ≡ ((when x then true else any f s) || (when y then true else any g s))
     go true y e = refl
     go false true e = sym (either (any f s))
     go false false e = e
@@ -61,7 +61,7 @@ some_or d f g [] = refl
 some_or d f g (a ∷ s) = go (f a) (g a (get_or s 0 d) (get_or s 1 d)) (some_or d f g s)
   where
     go : (x y : Bool) → some_at d (λ a b c. f a || g a b c) s ≡ (any f s || some_at d g s)
-        → (if x || y then true else some_at d (λ a b c. f a || g a b c) s) ≡ ((if x then true else any f s) || (if y then true else some_at d g s))
+        → (when x || y then true else some_at d (λ a b c. f a || g a b c) s) ≡ ((when x then true else any f s) || (when y then true else some_at d g s))
     go true y e = refl
     go false true e = sym (either (any f s))
     go false false e = e
@@ -94,7 +94,7 @@ quotable-by t =
 
 -- how the program asks
 abbrev pub refused_low : ℕ → Bool
-refused_low a = if ltb a 0x20 then true else if eqb a 39 then true else eqb a 0x7f
+refused_low a = when ltb a 0x20 then true else when eqb a 39 then true else eqb a 0x7f
 
 abbrev same : Bool → Bool → Bool
 same true b = b

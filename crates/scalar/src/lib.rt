@@ -2,7 +2,7 @@
 #![tactic(auto)]
 
 ghost use Rattle.std.specs.Prelude.{◌≡◌, false, ◌&&◌, ◌+◌, ◌^◌, ◌≤◌, ◌<◌, ◌++◌, length, get_or, leb, ltb};
-ghost use Rattle.definition.specs.Base.{if◌then◌else◌};
+ghost use Rattle.definition.specs.Base.{when◌then◌else◌};
 ghost use Rattle.definition.specs.Fold.{size, has_breakable};
 ghost use Rattle.definition.specs.Block.{block_header, block_body};
 ghost use Rattle.definition.specs.Settings.{weight_of, folds};
@@ -177,7 +177,7 @@ fn put_own(w: Writer, out: &mut [u8], terms: Terms, key: bool, t: &[u8]) -> Writ
 fn put_plain(w: Writer, out: &mut [u8], terms: Terms, flow: bool, key: bool, t: &[u8]) -> Writer
     requires { (length t.now ≤ 65536) × (length out.old < 2 ^ 21) }
     ensures { pen result out.new ≡ puts
-        (if must_quote (settings_in terms) flow key t.now (fields w).column then own_at (settings_in terms) key t.now (fields w).column else t.now)
+        (when must_quote (settings_in terms) flow key t.now (fields w).column then own_at (settings_in terms) key t.now (fields w).column else t.now)
         (pen w out.old) }
 {
     if must_quote(terms, flow, key, t, w.column()) {
@@ -198,7 +198,7 @@ fn put_block(
 ) -> Writer
     requires { (length t.now ≤ 65536) × (length out.old < 2 ^ 21) }
     ensures { pen result out.new ≡ puts
-        (if flow then quoted_at false t.now else block_header marker t.now ++ block_body indent t.now)
+        (when flow then quoted_at false t.now else block_header marker t.now ++ block_body indent t.now)
         (pen w out.old) }
 {
     if flow {

@@ -6,7 +6,7 @@ use Rattle.std.proofs.Common.{sym, ◌∙◌, length-set}
 use mathlib.Core.List.{[], ◌∷◌}
 use Rattle.std.proofs.Math.Option.{Option, none, some}
 use Rattle.std.proofs.Math.Dec.{eqb}
-use Rattle.definition.specs.Base.{Bytes, if◌then◌else◌}
+use Rattle.definition.specs.Base.{Bytes, when◌then◌else◌}
 use Rattle.definition.specs.Ascii.{LF}
 use Rattle.definition.specs.Scalar.{separator}
 use Rattle.definition.specs.Tree.{Inline}
@@ -29,7 +29,7 @@ record Stable (P : Pen → Type 0) : Type 0 where
   raw : (p : Pen) → P p → P (rawing p)
 
 module _ (P : Pen → Type 0) (h : Stable P) where
-  either : (b : Bool) (p q : Pen) → P p → P q → P (if b then p else q)
+  either : (b : Bool) (p q : Pen) → P p → P q → P (when b then p else q)
   either true p q x y = x
   either false p q x y = y
 
@@ -106,10 +106,10 @@ record Unseen (f : Pen → Pen) : Type 0 where
   column : (p : Pen) → (f p).w.column ≡ p.w.column
 
 module _ (f : Pen → Pen) (h : Unseen f) where
-  choice : (b c : Bool) (p q x y : Pen) → b ≡ c → p ≡ f x → q ≡ f y → (if b then p else q) ≡ f (if c then x else y)
+  choice : (b c : Bool) (p q x y : Pen) → b ≡ c → p ≡ f x → q ≡ f y → (when b then p else q) ≡ f (when c then x else y)
   choice b c p q x y e m n = rw e (go c)
     where
-      go : (c : Bool) → (if c then p else q) ≡ f (if c then x else y)
+      go : (c : Bool) → (when c then p else q) ≡ f (when c then x else y)
       go true = m
       go false = n
 
@@ -207,7 +207,7 @@ pub ended-length : (p : Pen) → length (ended p).out ≡ length p.out
 unfolding ended unput
 ended-length p = go (eqb p.w.raw 0) (eqb p.w.len p.w.raw) (eqb p.w.last LF)
   where
-    go : (a b c : Bool) → length (if a then p else if b then (if c then unput p else p) else p).out ≡ length p.out
+    go : (a b c : Bool) → length (when a then p else when b then (when c then unput p else p) else p).out ≡ length p.out
     go true b c = refl
     go false false c = refl
     go false true true = length-set p.out (p.w.len - 1) p.w.under

@@ -4,7 +4,7 @@ use Prim.{tt}
 use Rattle.std.proofs.Math.Bool.{false, not}
 use mathlib.Core.List.{List, [], ◌∷◌}
 use Rattle.std.proofs.Math.Option.{Option, none, some}
-use Rattle.definition.specs.Base.{Bytes, if◌then◌else◌, is_nil, is_some}
+use Rattle.definition.specs.Base.{Bytes, when◌then◌else◌, is_nil, is_some}
 use Rattle.definition.specs.Settings.{step_of}
 use Rattle.definition.specs.Utf8.{well_formed}
 use Rattle.definition.specs.Tree.{Kept, Brought, Node, Kind, Nodes, Pairs, node, null, scalar, alias, sequence, mapping, end, item, close, pair, kept, brought}
@@ -47,7 +47,7 @@ infixr 20 ◌⨾◌
 abbrev ◌⨾◌ : {A B : Type 0} → A → B → A × B
 x ⨾ y = (x, y)
 
-pub sound-if : (b : Bool) (x y : Script) → Sound x → Sound y → Sound (if b then x else y)
+pub sound-if : (b : Bool) (x y : Script) → Sound x → Sound y → Sound (when b then x else y)
 sound-if true x y g h = g
 sound-if false x y g h = h
 

@@ -4,7 +4,7 @@ use Prim.Native.Nat.{ℕ, ◌≤◌}
 use lib.ListN.{length}
 use lib.Dec.{eqb}
 use borrow.Author.Tests.{ne_eqb}
-use Rattle.definition.specs.Base.{Bytes, if◌then◌else◌}
+use Rattle.definition.specs.Base.{Bytes, when◌then◌else◌}
 use Rattle.definition.specs.Records.{kind_at, record_of, record_at}
 use Rattle.definition.specs.declared.Cursor.{Cursor}
 use Rattle.definition.specs.declared.Record.{Record}
@@ -25,7 +25,7 @@ module _ (deck : Bytes) (c : Cursor) (k : ℕ) (f : k ≡ kind_at deck c) where
       rw (← f, ne_eqb k 0x21 p, ne_eqb k 0x22 q, ne_eqb k 0x23 r, ne_eqb k 0x24 s)
       (sym (no 0x01 _ _ refl (no 0x02 _ _ refl (no 0x03 _ _ refl (no 0x04 _ _ refl (no 0x05 _ _ refl (no 0x06 _ _ refl (no 0x07 _ _ refl (no 0x08 _ _ refl (no 0x09 _ _ refl refl))))))))))
     where
-      no : (n : ℕ) (x y : Record) → body_of x ≡ Null → body_of y ≡ Null → body_of (if eqb k n then x else y) ≡ Null
+      no : (n : ℕ) (x y : Record) → body_of x ≡ Null → body_of y ≡ Null → body_of (when eqb k n then x else y) ≡ Null
       no n x y = either (λ (r : Record). body_of r ≡ Null) (eqb k n) {x = x} {y = y}
 
 -- ---- a node of its front

@@ -7,7 +7,7 @@ use native.Mathlib.Omega.{arith}
 use Rattle.std.proofs.Math.Bool.{true, false}
 use Rattle.std.proofs.Math.Dec.{eqb}
 use borrow.Author.Tests.{ne_eqb, eqb-true, eqb-false}
-use Rattle.definition.specs.Base.{Bytes, if◌then◌else◌}
+use Rattle.definition.specs.Base.{Bytes, when◌then◌else◌}
 use Rattle.definition.specs.Records.{byte_at, word_at, group_at, kind_at, record_of, record_at, size_of}
 use Rattle.definition.specs.Deck.{is_node}
 use Rattle.definition.specs.declared.Cursor.{Cursor}
@@ -39,7 +39,7 @@ few-onto : (n m : ℕ) (r : Run) (c : Cursor) → c.at ≤ m → Few n m r → F
 unfolding onto
 few-onto n m r c k f = let z = f.count in record { first = go (eqb r.count 0); count = omega arith }
   where
-    go : (b : Bool) → (if b then c else r.first).at ≤ m
+    go : (b : Bool) → (when b then c else r.first).at ≤ m
     go true = k
     go false = f.first
 
@@ -80,7 +80,7 @@ module _ (deck : Bytes) where
   lodged-from (suc k) n l c h b f =
       go (is_node (record_at deck c)) (lodged-from k (suc n) (add_to (record_at deck c) c l) (next_of deck c) (next-within deck c) (omega arith) (lodged-add n (length deck) (record_at deck c) c l h f))
     where
-      go : (t : Bool) → Ends (head_from deck k (add_to (record_at deck c) c l) (next_of deck c)).lead → Ends (if t then headed deck l c else head_from deck k (add_to (record_at deck c) c l) (next_of deck c)).lead
+      go : (t : Bool) → Ends (head_from deck k (add_to (record_at deck c) c l) (next_of deck c)).lead → Ends (when t then headed deck l c else head_from deck k (add_to (record_at deck c) c l) (next_of deck c)).lead
       go true e = record { most = n; bound = omega arith; lodged = f }
       go false e = e
 
@@ -127,7 +127,7 @@ module _ (deck : Bytes) where
       rw (ne_eqb k 0x23 p, ne_eqb k 0x24 q)
       (no 0x01 _ _ refl (no 0x02 _ _ refl (no 0x03 _ _ refl (no 0x04 _ _ refl (no 0x05 _ _ refl (no 0x06 _ _ refl (no 0x07 _ _ refl (no 0x08 _ _ refl (no 0x09 _ _ refl (no 0x21 _ _ refl (no 0x22 _ _ refl refl)))))))))))
     where
-      no : (n : ℕ) (x y : Record) → is_group (body_of x) ≡ false → is_group (body_of y) ≡ false → is_group (body_of (if eqb k n then x else y)) ≡ false
+      no : (n : ℕ) (x y : Record) → is_group (body_of x) ≡ false → is_group (body_of y) ≡ false → is_group (body_of (when eqb k n then x else y)) ≡ false
       no n x y = either (λ (r : Record). is_group (body_of r) ≡ false) (eqb k n) {x = x} {y = y}
 
   group-onward : (c : Cursor) → is_group (body_of (record_at deck c)) ≡ true → c.at < (next_of deck c).at
@@ -173,7 +173,7 @@ module _ (deck : Bytes) (bytes : (k : ℕ) → get_or deck k 0 < 256) where
       let z : 0 < 65536 = omega arith in
       few 0x01 _ _ z (few 0x02 _ _ z (few 0x03 _ _ z (few 0x04 _ _ z (few 0x05 _ _ z (few 0x06 _ _ z (few 0x07 _ _ z (few 0x08 _ _ z (few 0x09 _ _ z (few 0x21 _ _ z (few 0x22 _ _ z (few 0x23 _ _ (few-group at) (few 0x24 _ _ (few-group at) z))))))))))))
     where
-      few : (n : ℕ) (x y : Record) → count_in (body_of x) < 65536 → count_in (body_of y) < 65536 → count_in (body_of (if eqb k n then x else y)) < 65536
+      few : (n : ℕ) (x y : Record) → count_in (body_of x) < 65536 → count_in (body_of y) < 65536 → count_in (body_of (when eqb k n then x else y)) < 65536
       few n x y = either (λ (r : Record). count_in (body_of r) < 65536) (eqb k n) {x = x} {y = y}
 
   -- fewer than 65,536, since two bytes say it

@@ -5,7 +5,7 @@ use mathlib.Core.Bool.{Bool, true, false}
 use native.Mathlib.Omega.{arith}
 use lib.Dec.{eqb}
 use borrow.Author.Tests.{eqb-true}
-use Rattle.definition.specs.Base.{if◌then◌else◌}
+use Rattle.definition.specs.Base.{when◌then◌else◌}
 use Rattle.definition.specs.Settings.{is_empty_style, is_tilde, null_style_of, is_on}
 use Rattle.definition.specs.declared.NullStyle.TheVariants.{Null, Empty, Tilde}
 use Rattle.definition.specs.declared.Settings.{Settings}
@@ -15,7 +15,7 @@ pub empty-told : (n : ℕ) → is_empty_style (null_style_of n) ≡ eqb n 1
 unfolding is_empty_style null_style_of
 empty-told n = go (eqb n 1) (eqb n 2)
   where
-    go : (a b : Bool) → is_empty_style (if a then Empty else if b then Tilde else Null) ≡ a
+    go : (a b : Bool) → is_empty_style (when a then Empty else when b then Tilde else Null) ≡ a
     go true b = refl
     go false true = refl
     go false false = refl
@@ -24,7 +24,7 @@ pub tilde-told : (n : ℕ) → is_tilde (null_style_of n) ≡ eqb n 2
 unfolding is_tilde null_style_of
 tilde-told n = go (eqb n 1) (eqb n 2) refl refl
   where
-    go : (a b : Bool) → eqb n 1 ≡ a → eqb n 2 ≡ b → is_tilde (if a then Empty else if b then Tilde else Null) ≡ b
+    go : (a b : Bool) → eqb n 1 ≡ a → eqb n 2 ≡ b → is_tilde (when a then Empty else when b then Tilde else Null) ≡ b
     go true true e f = let x : n ≡ 1 = eqb-true n 1 e in let y : n ≡ 2 = eqb-true n 2 f in absurd (omega arith)
     go true false e f = refl
     go false true e f = refl

@@ -5,7 +5,7 @@ use Rattle.std.proofs.Math.Path.{ap, ap₂}
 use Rattle.std.proofs.Common.{sym, subst, ◌∙◌, arith, length-append}
 use mathlib.Core.List.{List, [], ◌∷◌, ◌++◌, append_assoc}
 use Rattle.std.proofs.Math.Seq.{take-append_seam, drop-append_seam}
-use Rattle.definition.specs.Base.{Bytes, if◌then◌else◌}
+use Rattle.definition.specs.Base.{Bytes, when◌then◌else◌}
 use Rattle.definition.specs.Settings.{plain_settings}
 use Rattle.definition.specs.Tree.{Node}
 use Rattle.definition.specs.Document.{emit_one, emit_all}
@@ -39,7 +39,7 @@ limited-out s x r h =
     go (ltb 16 s.indent || ltb 65535 s.width)
     (ltb 65536 (length x.deck) || ltb 65536 (length x.pool) || ltb 1048576 (length x.output) || ltb 4096 (length x.list)) h
   where
-    go : (a b : Bool) → Answered (if a then refused 1 0 x else (if b then refused 2 0 x else r)) → (if a then refused 1 0 x else (if b then refused 2 0 x else r)) ≡ r
+    go : (a b : Bool) → Answered (when a then refused 1 0 x else (when b then refused 2 0 x else r)) → (when a then refused 1 0 x else (when b then refused 2 0 x else r)) ≡ r
     go true b h = absurd (let z : ◌≡◌ {A = ℕ} 1 0 = h in omega arith)
     go false true h = absurd (let z : ◌≡◌ {A = ℕ} 2 0 = h in omega arith)
     go false false h = refl
@@ -60,8 +60,8 @@ handed_out : (t : Bytes) (cs : List Change) (x : Lent) → Answered (handed t cs
 unfolding handed no_room answered over
 handed_out t cs x h = go (ltb (length x.list) (length cs)) (ltb (length x.output) (length t)) h
   where
-    go : (a b : Bool) → Answered (if a then no_room 9 x else (if b then no_room 10 x else answered t cs false x))
-        → Back t cs (if a then no_room 9 x else (if b then no_room 10 x else answered t cs false x))
+    go : (a b : Bool) → Answered (when a then no_room 9 x else (when b then no_room 10 x else answered t cs false x))
+        → Back t cs (when a then no_room 9 x else (when b then no_room 10 x else answered t cs false x))
     go true b h = absurd (let z : ◌≡◌ {A = ℕ} 9 0 = h in omega arith)
     go false true h = absurd (let z : ◌≡◌ {A = ℕ} 10 0 = h in omega arith)
     go false false h = record { bytes = take-append_seam t _; list = take-append_seam cs _; rest = drop (length t) x.output; whole = refl }

@@ -4,7 +4,7 @@ use Rattle.std.proofs.Common.{subst, le_trans, le_refl, le_of_lt}
 use Prim.Native.Nat.{ℕ, zero, suc, ◌+◌, ◌≤◌, ◌<◌}
 use native.Mathlib.Omega.{arith}
 use Rattle.std.proofs.Math.Dec.{ltb→lt}
-use Rattle.definition.specs.Base.{Bytes, if◌then◌else◌}
+use Rattle.definition.specs.Base.{Bytes, when◌then◌else◌}
 use Rattle.definition.specs.Records.{kind_at, record_at, size_of, past}
 use Rattle.definition.specs.Tree.{Kept, Brought, Node, Nodes, Pairs, node, end, item, close, pair}
 use Rattle.definition.specs.Deck
@@ -16,7 +16,7 @@ use Rattle.theorems.specs.Order.{Rising, RisingItems, RisingPairs, RisingAll, Or
 
 -- ---- what was read, and the cursor after it
 
-gives-if : {A : Type 0} {P : A → Cursor → Type 0} (b : Bool) {r q : Deck.Read A} → Gives P r → (T (not b) → Gives P q) → Gives P (if b then r else q)
+gives-if : {A : Type 0} {P : A → Cursor → Type 0} (b : Bool) {r q : Deck.Read A} → Gives P r → (T (not b) → Gives P q) → Gives P (when b then r else q)
 gives-if true f g = f
 gives-if false f g = g tt
 

@@ -1,7 +1,7 @@
 -- The changed test against a predicate of its own, and the files that are handed back of two lists of includes that are the same but for one.
 use Rattle.std.specs.Prelude.{◌≡◌, refl, ◌↔◌, Bool, true, false, not, ◌&&◌, ◌||◌, List, [], ◌∷◌, ◌++◌, T}
 use Rattle.std.proofs.Common.{ap}
-use Rattle.definition.specs.Base.{if◌then◌else◌}
+use Rattle.definition.specs.Base.{when◌then◌else◌}
 use Rattle.definition.specs.Tree.{Node, Kind, Nodes, Pairs, node, null, scalar, alias, sequence, mapping, end, item, close, pair, kept}
 use Rattle.definition.specs.Walk.{included}
 use Rattle.definition.specs.Change.{local_modified, local_in, local_items, local_pairs, Boundary, boundaries, Written, written_of, changed}
@@ -105,7 +105,7 @@ changed-append [] cs = refl
 changed-append (x ∷ bs) cs = go (local_modified x.node) (changed-append bs cs)
   where
     go : (b : Bool) → changed (bs ++ cs) ≡ changed bs ++ changed cs
-        → (if b then written_of x ∷ changed (bs ++ cs) else changed (bs ++ cs)) ≡ (if b then written_of x ∷ changed bs else changed bs) ++ changed cs
+        → (when b then written_of x ∷ changed (bs ++ cs) else changed (bs ++ cs)) ≡ (when b then written_of x ∷ changed bs else changed bs) ++ changed cs
     go true e = ap (λ (r : List Written). written_of x ∷ r) e
     go false e = e
 

@@ -4,7 +4,7 @@ use Rattle.std.specs.Prelude.{◌≡◌, refl, ℕ, ◌≤◌, ◌<◌, Bool, tr
 use Rattle.std.proofs.Common.{sym, subst, ◌∙◌, arith}
 use Rattle.std.proofs.Math.Bool.{false}
 use borrow.Author.Tests.{lt-ltb, le-ltb, ltb-true, ltb-false}
-use Rattle.definition.specs.Base.{Bytes, if◌then◌else◌}
+use Rattle.definition.specs.Base.{Bytes, when◌then◌else◌}
 use Rattle.definition.specs.Settings.{null_as, plain_settings}
 use Rattle.definition.specs.Tree.{Node}
 use Rattle.definition.specs.Pen.{Script, bytes_of}
@@ -54,12 +54,12 @@ unfolding tell_modified
 modified-judged = record { of = _; is = λ x. refl }
 
 -- a test of two parts, a test of four
-two : (a b : Bool) (u v : Outcome) → ((a ≡ false) × (b ≡ false) → ⊥) → (if a || b then u else v) ≡ u
+two : (a b : Bool) (u v : Outcome) → ((a ≡ false) × (b ≡ false) → ⊥) → (when a || b then u else v) ≡ u
 two true b u v h = refl
 two false true u v h = refl
 two false false u v h = absurd (h (refl, refl))
 
-four : (a b c d : Bool) (u v : Outcome) → ((a ≡ false) × (b ≡ false) × (c ≡ false) × (d ≡ false) → ⊥) → (if a || b || c || d then u else v) ≡ u
+four : (a b c d : Bool) (u v : Outcome) → ((a ≡ false) × (b ≡ false) × (c ≡ false) × (d ≡ false) → ⊥) → (when a || b || c || d then u else v) ≡ u
 four true b c d u v h = refl
 four false true c d u v h = refl
 four false false c d u v h = two c d u v (λ z. h (refl, refl, z.0, z.1))
@@ -68,7 +68,7 @@ module _ (s : Settings) (x : Lent) (r : Outcome) where
   -- what `limited` tests second
   abbrev second : Outcome
   second =
-      if ltb 65536 (length x.deck) || ltb 65536 (length x.pool) || ltb 1048576 (length x.output) || ltb 4096 (length x.list) then refused 2 0 x
+      when ltb 65536 (length x.deck) || ltb 65536 (length x.pool) || ltb 1048576 (length x.output) || ltb 4096 (length x.list) then refused 2 0 x
       else r
 
   limited-1 : (Settled s → ⊥) → limited s x r ≡ refused 1 0 x
@@ -130,7 +130,7 @@ lent deck pool out = record { deck = deck; pool = pool; output = out; list = [] 
 unfoldable pub told : Pen → Lent → Outcome
 told q x =
     let wrote : Outcome = record { number = 0; place = 0; length = q.w.len; count = 0; modified = false; list = x.list; output = q.out } in
-    if ltb (length x.output) q.w.len then no_room 10 x else wrote
+    when ltb (length x.output) q.w.len then no_room 10 x else wrote
 
 pub told-fits : (q : Pen) (x : Lent) → q.w.len ≤ length x.output
     → told q x ≡ record { number = 0; place = 0; length = q.w.len; count = 0; modified = false; list = x.list; output = q.out }
@@ -147,7 +147,7 @@ unfolding handed answered over
 leaves-told deck pool orig t q h = go (ltb (length orig) (length t)) refl
   where
     go : (b : Bool) → ltb (length orig) (length t) ≡ b
-        → (if b then no_room 10 (lent deck pool orig) else answered t [] false (lent deck pool orig)) ≡ told q (lent deck pool orig)
+        → (when b then no_room 10 (lent deck pool orig) else answered t [] false (lent deck pool orig)) ≡ told q (lent deck pool orig)
     go true e = sym (told_over q (lent deck pool orig) (h.over (ltb-true _ _ e)))
     go false e =
         let l : length t ≤ length orig = ltb-false _ _ e in

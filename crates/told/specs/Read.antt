@@ -6,7 +6,7 @@ use Prim.{tt}
 use Prim.Native.Nat.{ℕ, zero, suc, ◌+◌}
 use Rattle.std.proofs.Math.Bool.{false}
 use borrow.Author.Tests.{eqb-true}
-use Rattle.definition.specs.Base.{Bytes, if◌then◌else◌}
+use Rattle.definition.specs.Base.{Bytes, when◌then◌else◌}
 use Rattle.definition.specs.Utf8.{well_formed}
 use Rattle.definition.specs.Records.{kind_at, record_at}
 use Rattle.definition.specs.Tree.{Kept, Brought, Node}
@@ -29,7 +29,7 @@ use Rattle.scripts.specs.Files.{FormedFiles, formed-files-all}
 abbrev Gives : {A : Type 0} → (A → Type 0) → Deck.Read A → Type 0
 Gives {A} P r = read.Gives (λ (a : A) (c : Cursor). P a) r
 
-gives-if : {A : Type 0} {P : A → Type 0} (b : Bool) {r q : Deck.Read A} → (b ≡ true → Gives P r) → Gives P q → Gives P (if b then r else q)
+gives-if : {A : Type 0} {P : A → Type 0} (b : Bool) {r q : Deck.Read A} → (b ≡ true → Gives P r) → Gives P q → Gives P (when b then r else q)
 gives-if true f g = f refl
 gives-if false f g = g
 
@@ -43,7 +43,7 @@ clean-text : (pool : Bytes) (t : Text) (ts : List Text) → Deck.texts_fault poo
 unfolding Deck.texts_fault
 clean-text pool t ts h = go (ltb (length pool) (t.from + t.len)) (well_formed (Deck.words pool t)) refl h
   where
-    go : (b c : Bool) → well_formed (Deck.words pool t) ≡ c → (if b then 4 else if c then Deck.texts_fault pool ts else 5) ≡ 0
+    go : (b c : Bool) → well_formed (Deck.words pool t) ≡ c → (when b then 4 else when c then Deck.texts_fault pool ts else 5) ≡ 0
         → well_formed (Deck.words pool t) ≡ true
     go true c e h = absurd (omega arith)
     go false true e h = e
