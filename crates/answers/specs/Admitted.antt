@@ -13,6 +13,7 @@ use Rattle.judge.specs.declared.Verdict.{Verdict}
 use Rattle.judge.specs.declared.Verdict.TheVariants as verdict
 use Rattle.judge.specs.Judge.{verdict_of}
 use Rattle.agree.specs.Accepted as agreed
+use Rattle.agree.proofs.Accepted as agreement
 use Rattle.told.specs.Outcome.{Settled, Small, Judged, refused-1, refused-2, refused-read}
 use Rattle.answers.specs.Limits.{limit_of, Limited, over-1, over-2, within, limited}
 
@@ -48,9 +49,9 @@ module _ (s : Settings) (x : Lent) where
   unfolding Says
   read-says n (over-1 z) h v e = absurd (omega arith)
   read-says n (over-2 z l) h v e = absurd (omega arith)
-  read-says n (within z l) h (verdict.Good k) e = record { settled = z; small = l; accepted = agreed.accepted x.deck x.pool k (sym e) }
+  read-says n (within z l) h (verdict.Good k) e = record { settled = z; small = l; accepted = agreement.accepted x.deck x.pool k (sym e) }
   read-says n (within z l) h (verdict.Refused k p) e =
-      record { refuses = λ call j. refused-read j x k p z l (agreed.refused x.deck x.pool k p (sym e)) }
+      record { refuses = λ call j. refused-read j x k p z l (agreement.refused x.deck x.pool k p (sym e)) }
 
   pub admit-says : Says s x (admit_of s x.deck x.pool (length x.output) (length x.list))
   unfolding admit_of

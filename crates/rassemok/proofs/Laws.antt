@@ -11,6 +11,7 @@ use Rattle.definition.specs.Deck.{got, read_deck}
 use Rattle.definition.specs.Calls.{over, answered, tell_modified}
 use Rattle.node.specs.Total.{trees_of}
 use Rattle.agree.specs.Accepted as agreed
+use Rattle.agree.proofs.Accepted as agreement
 use Rattle.joints.specs.Entries.{node_at}
 use Rattle.told.specs.Outcome.{Small, lent, modified-refused-8, modified-told}
 use Rattle.answers.specs.declared.Answer.{Answer}
@@ -26,5 +27,5 @@ module _ (deck pool : Bytes) (l : Small (lent deck pool [])) where
       → outcome_of (record { number = 0; place = 0; length = 0; count = 0; modified = b }) [] [] ≡ tell_modified (lent deck pool [])
   unfolding outcome_of answered over
   one-looked n b g h e =
-      let f : read_deck deck pool ≡ got (node_at deck pool (record { at = 0 }) ∷ []) g.end = g.read ∙ ap (λ (ns : List Node). got ns g.end) (agreed.one-tree deck pool (g.count ∙ h)) in
+      let f : read_deck deck pool ≡ got (node_at deck pool (record { at = 0 }) ∷ []) g.end = g.read ∙ ap (λ (ns : List Node). got ns g.end) (agreement.one-tree deck pool (g.count ∙ h)) in
       rw e (sym (modified-told (lent deck pool []) (node_at deck pool (record { at = 0 })) g.end l f))

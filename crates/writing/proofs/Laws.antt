@@ -18,6 +18,7 @@ use Rattle.pen.specs.Pen.{Fields, Pen, fields, page, pen, ink, ended}
 use Rattle.pen.specs.Shown.{begun}
 use Rattle.scripts.specs.Keep.{ended-length-of}
 use Rattle.agree.specs.Accepted as agreed
+use Rattle.agree.proofs.Accepted as agreement
 use Rattle.joints.specs.Entries.{node_at}
 use Rattle.told.specs.Outcome.{Settled, Small, Judged, one-judged, all-judged, one-refused-8, lent, told-fits, told_over, one_told, all_told}
 use Rattle.layout.specs.Calm.{Calm}
@@ -59,7 +60,7 @@ module _ (s : Settings) (deck pool orig : Bytes) where
     unfolding written
     one-answered w v out out' r g f q t =
         let n : Node = node_at deck pool (record { at = 0 }) in
-        let e : read_deck deck pool ≡ got (n ∷ []) g.end = g.read ∙ ap (λ (ns : List Node). got ns g.end) (agreed.one-tree deck pool g.count) in
+        let e : read_deck deck pool ≡ got (n ∷ []) g.end = g.read ∙ ap (λ (ns : List Node). got ns g.end) (agreement.one-tree deck pool g.count) in
         let u : pen v out ≡ ended (ink s (one_document s false n) (page (begun s) orig)) = q ∙ ap (λ (x : Fields). ended (ink s (one_document s false n) (page x orig))) f in
         t.tells deck pool orig (ended-length-of s (one_document s false n) (pen w orig) (pen v out) q) ∙ sym (one_told s deck pool orig z l n g.end e (pen v out) u)
 

@@ -19,7 +19,8 @@ use Rattle.deck.specs.Outcome.{Sound, Outcome, bad, good, outcome, next_past}
 use Rattle.node.specs.declared.Lead.{Lead}
 use Rattle.node.specs.Head.{Head, add_to, headed, head_from, head_at, no_lead}
 use Rattle.node.specs.Total.{Got, kept_of, brought_of, items_from, pairs_from, shape, shape_of, node_from, tree_at, trees_from, trees_of}
-use Rattle.agree.specs.Runs.{Fits, fits_more, fits-none}
+use Rattle.agree.specs.Runs.{Fits}
+use Rattle.agree.proofs.Runs.{fits_more, fits-none}
 
 gives_at : {A : Type 0} {P : A → Cursor → Type 0} (r : Read A) (a : A) (e : Cursor) → Gives P r → r ≡ got a e → P a e
 gives_at (fault n p) a e g q = let z : ◌≡◌ {A = ℕ} 0 1 = cc in absurd (omega arith)

@@ -1,0 +1,4 @@
+-- Theorems: the two readers agree.
+pub mod Runs
+pub mod Agree
+pub mod Accepted
