@@ -14,7 +14,8 @@ use Rattle.judge.specs.declared.Verdict.TheVariants as verdict
 use Rattle.judge.specs.Judge.{verdict_of}
 use Rattle.agree.specs.Accepted as agreed
 use Rattle.agree.proofs.Accepted as agreement
-use Rattle.told.specs.Outcome.{Settled, Small, Judged, refused-1, refused-2, refused-read}
+use Rattle.told.specs.Outcome.{Settled, Small, Judged}
+use Rattle.told.proofs.Outcome.{refused-1, refused-2, refused-read}
 use Rattle.answers.specs.Limits.{limit_of, Limited, over-1, over-2, within, limited}
 
 -- a call that tests limits and deck first is refused so

@@ -10,7 +10,8 @@ use Rattle.definition.specs.Calls.{Lent, Outcome, refused, no_room, answered, ha
 use Rattle.definition.specs.Program.{refusal_line, shown, emit_into, program}
 use Rattle.definition.specs.declared.Settings.{Settings}
 use Rattle.laws.specs.Tests.{by-test}
-use Rattle.told.specs.Outcome.{Small, all-judged, plain-settled, refused-2}
+use Rattle.told.specs.Outcome.{Small, all-judged}
+use Rattle.told.proofs.Outcome.{plain-settled, refused-2}
 
 -- the length of the deck, as the input states it
 unfoldable pub deck_length : Bytes → ℕ

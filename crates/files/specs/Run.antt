@@ -18,10 +18,11 @@ use Rattle.definition.specs.declared.Cursor.{Cursor}
 use Rattle.pen.specs.Pen.{Pen, page}
 use Rattle.pen.specs.Shown.{begun, Leaves, leaves}
 use Rattle.scripts.specs.Sound.{Formed}
-use Rattle.scripts.specs.Files.{FormedFiles, sound-file}
+use Rattle.scripts.specs.Files.{FormedFiles}
+use Rattle.scripts.proofs.Files.{sound-file}
 use Rattle.scripts.specs.Keep.{ended-length-of}
 use Rattle.node.specs.Total.{trees_of}
-use Rattle.told.specs.Read.{files-read}
+use Rattle.told.proofs.Sound.{files-read}
 use Rattle.joints.specs.Entries.{node_at}
 use Rattle.files.specs.declared.Walk.{Walk}
 use Rattle.files.specs.declared.Found.{Found}

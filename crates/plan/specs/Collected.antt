@@ -14,7 +14,8 @@ use Rattle.definition.specs.declared.Change.{Change}
 use Rattle.node.specs.Total.{trees_of}
 use Rattle.judge.specs.declared.Verdict.{Verdict}
 use Rattle.judge.specs.declared.Verdict.TheVariants as verdict
-use Rattle.told.specs.Outcome.{changed-judged, changed-told}
+use Rattle.told.specs.Outcome.{changed-judged}
+use Rattle.told.proofs.Outcome.{changed-told}
 use Rattle.answers.specs.Answer.{outcome_of, refusal, refusal_is}
 use Rattle.answers.specs.Admitted.{Refuses, Admits, Says, admit_of, said}
 use Rattle.files.specs.Run.{Run, run_of, run-zeros, run_length, files-fit, files-over}

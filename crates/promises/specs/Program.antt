@@ -18,17 +18,15 @@ use Rattle.definition.specs.Base.{Bytes}
 use Rattle.definition.specs.Tree.{Node}
 use Rattle.definition.specs.Change.{Written}
 use Rattle.definition.specs.Deck.{got, read_deck}
-use Rattle.definition.specs.Calls.{Lent, Outcome, Call, collect_changed_include_changes, call_local_modified, outcome}
+use Rattle.definition.specs.Calls.{Lent, Outcome, Call, call_local_modified, outcome}
 use Rattle.definition.specs.declared.Cursor.{Cursor}
 use Rattle.definition.specs.declared.Change.{Change}
 use Rattle.answers.specs.declared.Answer.{Answer}
 use Rattle.answers.specs.Answer.{outcome_of}
 use Rattle.theorems.specs.Around.{Touched}
-use Rattle.theorems.specs.Handed.{SameHanded}
-use Rattle.theorems.specs.Listed.{Exactly}
-use Rattle.theorems.specs.Entries.{SameEntries}
-use Rattle.theorems.specs.Answers.{bytes_back, files_at, files_back, Answered, One}
-use Rattle.theorems.specs.Demand3.{TwinDecks, Inner, Writes, same_bytes, same-modified, same_entries, same-files, handed-exactly, handed-only, modified-exactly}
+use Rattle.theorems.specs.Answers.{bytes_back, files_at, Answered, One}
+use Rattle.theorems.specs.Demand3.{TwinDecks, Inner, Writes}
+use Rattle.theorems.proofs.Demand3.{same_bytes, same-modified, modified-exactly}
 
 -- what a call handed back on what it was lent, as its contract has it
 pub record Ran (c : Call) (x : Lent) : Type 0 where
@@ -48,17 +46,13 @@ module _ {c : Call} {x : Lent} where
   abbrev pub files : Ran c x → List Written
   files r = files_at (take r.answer.count r.list) r.out
 
-  answers-is : (r : Ran c x) → Answers r → Answered (outcome c x)
+  pub answers-is : (r : Ran c x) → Answers r → Answered (outcome c x)
   unfolding outcome_of
   answers-is r h = subst Answered r.meets h
 
   written_is : (r : Ran c x) → written r ≡ bytes_back (outcome c x)
   unfolding outcome_of
   written_is r = ap bytes_back r.meets
-
-  files-is : (r : Ran c x) → files r ≡ files_back (outcome c x)
-  unfolding outcome_of
-  files-is r = ap files_back r.meets
 
   modified-is : (r : Ran c x) → r.answer.modified ≡ (outcome c x).modified
   unfolding outcome_of
@@ -70,14 +64,6 @@ module _ (x y : Lent) (w : TwinDecks x y) where
   pub program-bytes : (c : Call) → Writes c → (r : Ran c x) (s : Ran c y) → Answers r → Answers s → written r ≡ written s
   program-bytes c q r s h k = written_is r ∙ same_bytes x y w c q (answers-is r h) (answers-is s k) ∙ sym (written_is s)
 
-  pub program-entries : (r : Ran collect_changed_include_changes x) (s : Ran collect_changed_include_changes y) → Answers r → Answers s
-      → SameEntries w.twin (files r) (files s)
-  program-entries r s h k = rw (files-is r, files-is s) (same_entries x y w (answers-is r h) (answers-is s k))
-
-  pub program-files : (r : Ran collect_changed_include_changes x) (s : Ran collect_changed_include_changes y) → Answers r → Answers s
-      → SameHanded w.include₁ w.include₂ (files r) (files s)
-  program-files r s h k = rw (files-is r, files-is s) (same-files x y w (answers-is r h) (answers-is s k))
-
   pub program-modified : Inner w.twin → (r : Ran call_local_modified x) (s : Ran call_local_modified y) → Answers r → Answers s
       → r.answer.modified ≡ s.answer.modified
   program-modified i r s h k = modified-is r ∙ same-modified x y w i (answers-is r h) (answers-is s k) ∙ sym (modified-is s)
@@ -85,11 +71,5 @@ module _ (x y : Lent) (w : TwinDecks x y) where
 -- ---- the second sentence
 
 module _ (x : Lent) {ns : List Node} {c : Cursor} (q : read_deck x.deck x.pool ≡ got ns c) where
-  pub program-exactly : (r : Ran collect_changed_include_changes x) → Answers r → Exactly ns (files r)
-  program-exactly r h = rw (files-is r) (handed-exactly x q (answers-is r h))
-
-  pub program-only : (r : Ran collect_changed_include_changes x) → Answers r → (ws : List Written) → Exactly ns ws → ws ≡ files r
-  program-only r h ws b = handed-only x q (answers-is r h) ws b ∙ sym (files-is r)
-
   pub program-touched : (r : Ran call_local_modified x) → Answers r → One (λ n. T r.answer.modified ↔ Touched n) ns
   program-touched r h = rw (modified-is r) (modified-exactly x q (answers-is r h))

@@ -13,7 +13,8 @@ use Rattle.node.specs.Total.{trees_of}
 use Rattle.agree.specs.Accepted as agreed
 use Rattle.agree.proofs.Accepted as agreement
 use Rattle.joints.specs.Entries.{node_at}
-use Rattle.told.specs.Outcome.{Small, lent, modified-refused-8, modified-told}
+use Rattle.told.specs.Outcome.{Small, lent}
+use Rattle.told.proofs.Outcome.{modified-refused-8, modified-told}
 use Rattle.answers.specs.declared.Answer.{Answer}
 use Rattle.answers.specs.Answer.{outcome_of, refusal, refusal_is}
 

@@ -1,17 +1,12 @@
--- What is promised, first; then the two files that state it; behind them, what they stand on.
-pub mod Promises
-pub mod Reading
+-- What the statements speak of, and what the promises stand on; the promises themselves are in proofs/, which opens with Promises.
 pub mod Demand3
 pub mod ReadWitnesses
 pub mod ReadPieces
 pub mod ReadQuoted
-pub mod ReadDouble
-pub mod ReadSingle
 pub mod ReadLiteral
 pub mod LiteralText
 pub mod LiteralLines
 pub mod FoldLines
-pub mod FoldBound
 pub mod FoldQuoted
 pub mod Around
 pub mod Order

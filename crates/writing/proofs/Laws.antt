@@ -20,7 +20,8 @@ use Rattle.scripts.specs.Keep.{ended-length-of}
 use Rattle.agree.specs.Accepted as agreed
 use Rattle.agree.proofs.Accepted as agreement
 use Rattle.joints.specs.Entries.{node_at}
-use Rattle.told.specs.Outcome.{Settled, Small, Judged, one-judged, all-judged, one-refused-8, lent, told-fits, told_over, one_told, all_told}
+use Rattle.told.specs.Outcome.{Settled, Small, Judged, one-judged, all-judged, lent}
+use Rattle.told.proofs.Outcome.{one-refused-8, told-fits, told_over, one_told, all_told}
 use Rattle.layout.specs.Calm.{Calm}
 use Rattle.document.specs.Root.{begin}
 use Rattle.answers.specs.declared.Answer.{Answer}

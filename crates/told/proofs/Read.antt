@@ -1,5 +1,5 @@
 -- The trees that a deck is read into have only well-formed scalars, since the reader tests each text (refusal 5). So the scripts of an accepted
--- deck are sound.
+-- deck are sound (Sound).
 use Rattle.std.specs.Prelude.{◌≡◌, refl, Bool, true, not, List, [], ◌∷◌, eqb, leb, ltb, length}
 use Rattle.std.proofs.Common.{subst, arith}
 use Prim.{tt}
@@ -10,19 +10,14 @@ use Rattle.definition.specs.Base.{Bytes, when◌then◌else◌}
 use Rattle.definition.specs.Utf8.{well_formed}
 use Rattle.definition.specs.Records.{kind_at, record_at}
 use Rattle.definition.specs.Tree.{Kept, Brought, Node}
-use Rattle.definition.specs.Document.{one_document, all_documents}
-use Rattle.definition.specs.Change.{boundaries_all}
 use Rattle.definition.specs.Deck
-use Rattle.definition.specs.declared.Settings.{Settings}
 use Rattle.definition.specs.declared.Cursor.{Cursor}
 use Rattle.definition.specs.declared.Text.{Text}
 use Rattle.definition.specs.declared.Record.{Record}
 use Rattle.definition.specs.declared.Record.TheVariants as is
 use Rattle.laws.specs.Gives.{gives-fault, gives-got, gives-bind, got-out}
 use Rattle.laws.specs.Gives as read
-use Rattle.pen.specs.Shown.{Sound}
-use Rattle.scripts.specs.Sound.{Formed, FormedNodes, FormedPairs, FormedAll, sound-one, sound-all}
-use Rattle.scripts.specs.Files.{FormedFiles, formed-files-all}
+use Rattle.scripts.specs.Sound.{Formed, FormedNodes, FormedPairs, FormedAll}
 
 -- ---- a value that was read is as P says
 
@@ -117,15 +112,3 @@ module _ (deck pool : Bytes) where
   pub formed : (ns : List Node) (c : Cursor) → Deck.read_deck deck pool ≡ Deck.got ns c → FormedAll ns
   unfolding Deck.read_deck
   formed ns c q = got-out (subst (λ (r : Deck.Read (List Node)). Gives FormedAll r) q (trees-formed (length deck) (record { at = 0 })))
-
-  -- so what is written of them is sound
-  pub sound-read-all : (s : Settings) (ns : List Node) (c : Cursor) → Deck.read_deck deck pool ≡ Deck.got ns c → Sound (all_documents s ns)
-  sound-read-all s ns c q = sound-all s ns (formed ns c q)
-
-  pub sound-read-one : (s : Settings) (n : Node) (c : Cursor) → Deck.read_deck deck pool ≡ Deck.got (n ∷ []) c → Sound (one_document s false n)
-  unfolding FormedAll
-  sound-read-one s n c q = sound-one s false n (formed (n ∷ []) c q).0
-
-  -- and so are the files of its includes
-  pub files-read : (ns : List Node) (c : Cursor) → Deck.read_deck deck pool ≡ Deck.got ns c → FormedFiles (boundaries_all ns)
-  files-read ns c q = formed-files-all ns (formed ns c q)
