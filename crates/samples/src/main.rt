@@ -25,16 +25,19 @@ fn replay_all(rt: &HostRuntime, list: &[u8]) -> io::Result<()> {
     report(rt, replay::replay(list, &mut deck, &mut pool, &mut out))
 }
 
+fn replay_file(rt: &HostRuntime, path: &str) -> io::Result<()> {
+    let mut file = fs::open(rt, path)?;
+    let mut list = replay::list_room();
+    let m = read_full(&mut file, &mut list)?;
+    replay_all(rt, &list[..m])
+}
+
+// Where no file is named, none is found.
 fn main(rt: HostRuntime) -> io::Result<()> {
-    let mut name = env::args(&rt)?;
-    let _program = name.next();
-    match name.next() {
-        Some(path) => {
-            let mut file = fs::open(&rt, path.as_str())?;
-            let mut list = replay::list_room();
-            let m = read_full(&mut file, &mut list)?;
-            replay_all(&rt, &list[..m])
-        }
-        None => replay_all(&rt, b""),
+    let mut words = env::args(&rt)?;
+    let _program = words.next();
+    match words.next() {
+        Some(path) => replay_file(&rt, path.as_str()),
+        None => replay_file(&rt, ""),
     }
 }
