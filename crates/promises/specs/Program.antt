@@ -10,6 +10,8 @@
 --     program-only       and no other list is so
 --     program-touched    `local_modified` answers yes exactly when the document is touched
 --
+-- The four that speak of files and entries are in proofs/Program.antt.
+--
 -- A run is what a call hands back, with the equation that is the call's contract (`crates/rassemok`). Of two runs both answer.
 use Rattle.std.specs.Prelude.{◌≡◌, ◌↔◌, List, T, take}
 use Rattle.std.proofs.Common.{sym, ◌∙◌}

@@ -1,2 +1,2 @@
-// No code: specs/ holds demand 3, of what the calls hand back.
+// No code: specs/ and proofs/ hold demand 3, of what the calls hand back.
 #![tactic(auto)]

@@ -1,2 +1,2 @@
-// Laws of scripts and of the pen under a script, in specs/.
+// Laws of scripts and of the pen under a script, in specs/ and proofs/.
 #![tactic(auto)]
