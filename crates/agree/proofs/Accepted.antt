@@ -6,29 +6,28 @@ use Rattle.definition.specs.Tree.{Node}
 use Rattle.definition.specs.Deck.{Read, fault, got, read_deck}
 use Rattle.definition.specs.declared.Cursor.{Cursor}
 use Rattle.node.specs.Total.{tree_at, trees_from, trees_of}
-use Rattle.judge.specs.declared.Verdict.TheVariants as verdict
-use Rattle.judge.specs.Judge.{verdict_of}
+use Rattle.judge.specs.Judge.{Good, Rejected, verdict_of}
 use Rattle.agree.proofs.Agree.{agree-deck}
 use Rattle.agree.specs.Accepted.{Accepted}
 
-pub accepted : (deck pool : Bytes) (n : ℕ) → verdict_of (read_deck deck pool) ≡ verdict.Good n → Accepted deck pool n
+pub accepted : (deck pool : Bytes) (n : ℕ) → verdict_of (read_deck deck pool) ≡ Good n → Accepted deck pool n
 unfolding verdict_of
 accepted deck pool n e = go (read_deck deck pool) refl e
   where
-    go : (r : Read (List Node)) → read_deck deck pool ≡ r → verdict_of r ≡ verdict.Good n → Accepted deck pool n
-    go (fault k p) q e = let z : ◌≡◌ {A = ℕ} 0 1 = cc in absurd (omega arith)
+    go : (r : Read (List Node)) → read_deck deck pool ≡ r → verdict_of r ≡ Good n → Accepted deck pool n
+    go (fault k p) q e = cc
     go (got ts j) q e =
         let s : trees_of deck pool ≡ ts = agree-deck deck pool ts j q in
         record { end = j; read = rw s q; count = rw s (let u : length ts ≡ n = cc in u) }
 
 -- and a refusal is the definition's own
-pub refused : (deck pool : Bytes) (k p : ℕ) → verdict_of (read_deck deck pool) ≡ verdict.Refused k p → read_deck deck pool ≡ fault k p
+pub refused : (deck pool : Bytes) (k p : ℕ) → verdict_of (read_deck deck pool) ≡ Rejected k p → read_deck deck pool ≡ fault k p
 unfolding verdict_of
 refused deck pool k p e = go (read_deck deck pool) e
   where
-    go : (r : Read (List Node)) → verdict_of r ≡ verdict.Refused k p → r ≡ fault k p
+    go : (r : Read (List Node)) → verdict_of r ≡ Rejected k p → r ≡ fault k p
     go (fault a b) e = let u : a ≡ k = cc in let v : b ≡ p = cc in rw (u, v)
-    go (got ts j) e = let z : ◌≡◌ {A = ℕ} 0 1 = cc in absurd (omega arith)
+    go (got ts j) e = cc
 
 -- ---- one document
 

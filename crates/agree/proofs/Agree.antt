@@ -23,7 +23,7 @@ use Rattle.agree.specs.Runs.{Fits}
 use Rattle.agree.proofs.Runs.{fits_more, fits-none}
 
 gives_at : {A : Type 0} {P : A → Cursor → Type 0} (r : Read A) (a : A) (e : Cursor) → Gives P r → r ≡ got a e → P a e
-gives_at (fault n p) a e g q = let z : ◌≡◌ {A = ℕ} 0 1 = cc in absurd (omega arith)
+gives_at (fault n p) a e g q = cc
 gives_at {P = P} (got x i) a e (gives-got h) q = let u : x ≡ a = cc in let v : i ≡ e = cc in rw (u, v) at h
 
 -- ---- a node's records

@@ -77,7 +77,7 @@ order_le last k h e = go (ltb last k) (eqb last k) refl refl (rw (le-ltb 9 k h) 
     go : (x y : Bool) → ltb last k ≡ x → eqb last k ≡ y → x || (y && (eqb k 0x04 || eqb k 0x06 || eqb k 0x08)) ≡ true → last ≤ k
     go true y p q e = let g : last < k = ltb-true _ _ p in omega arith
     go false true p q e = let g : last ≡ k = eqb-true _ _ q in omega arith
-    go false false p q e = let z : ◌≡◌ {A = ℕ} 0 1 = cc in absurd (omega arith)
+    go false false p q e = cc
 
 split : {P : Type 0} {k : ℕ} (n : ℕ) → n ≤ k → (k ≡ n → P) → (suc n ≤ k → P) → P
 split {P} {k} n l f g = go (eqb k n) refl
@@ -92,8 +92,8 @@ leads k e = go (leb 1 k) (leb k 9) refl refl e
   where
     go : (x y : Bool) → leb 1 k ≡ x → leb k 9 ≡ y → not (when x then y else false) ≡ false → (1 ≤ k) × (k ≤ 9)
     go true true p q e = (leb-true _ _ p, leb-true _ _ q)
-    go true false p q e = let z : ◌≡◌ {A = ℕ} 0 1 = cc in absurd (omega arith)
-    go false y p q e = let z : ◌≡◌ {A = ℕ} 0 1 = cc in absurd (omega arith)
+    go true false p q e = cc
+    go false y p q e = cc
 
 leading : (deck : Bytes) (c : Cursor) (k : ℕ) → 1 ≤ k → k ≤ 9 → Leading deck c k (record_of k deck (c.at + 1))
 unfolding record_of
@@ -108,22 +108,18 @@ leading deck c k l u =
     split 8 l7 (λ h. rw h directive) (λ l8.
     split 9 l8 (λ h. rw h layout) (λ l9. absurd (omega arith))))))))))
 
--- the place of a record's body is not 0
-there : (c : Cursor) → eqb (c.at + 1) 0 ≡ false
-there c = ne_eqb (c.at + 1) 0 (λ e. absurd (omega (arith, e)))
-
 module _ (deck pool : Bytes) (last : ℕ) (c : Cursor) (l : Lead) (a : Kept) (b : Brought) where
   fits-step :
       (k : ℕ) (r : Record) → Leading deck c k r → last ≤ k → Fits deck pool last c l a b →
       Fits deck pool k (on c (size_of k)) (add_to r c l) (keep pool r a) (bring pool r b)
   unfolding add_to keep bring kept_of brought_of held_of origin_of remark_of onto comment_at text_of size_of
-  fits-step k r tag h y = record { kept = rw (← y.kept); brought = rw (← y.brought, there c); heads = ready-other 1 (on c 5) (λ z. absurd (omega arith)) h y.heads; foots = ready-other 1 (on c 5) (λ z. absurd (omega arith)) h y.foots; directives = ready-other 1 (on c 5) (λ z. absurd (omega arith)) h y.directives }
-  fits-step k r anchor h y = record { kept = rw (← y.kept); brought = rw (← y.brought, there c); heads = ready-other 2 (on c 5) (λ z. absurd (omega arith)) h y.heads; foots = ready-other 2 (on c 5) (λ z. absurd (omega arith)) h y.foots; directives = ready-other 2 (on c 5) (λ z. absurd (omega arith)) h y.directives }
-  fits-step k r include h y = record { kept = rw (← y.kept, there c); brought = rw (← y.brought); heads = ready-other 3 (on c 14) (λ z. absurd (omega arith)) h y.heads; foots = ready-other 3 (on c 14) (λ z. absurd (omega arith)) h y.foots; directives = ready-other 3 (on c 14) (λ z. absurd (omega arith)) h y.directives }
+  fits-step k r tag h y = record { kept = rw (← y.kept); brought = rw (← y.brought); heads = ready-other 1 (on c 5) (λ z. absurd (omega arith)) h y.heads; foots = ready-other 1 (on c 5) (λ z. absurd (omega arith)) h y.foots; directives = ready-other 1 (on c 5) (λ z. absurd (omega arith)) h y.directives }
+  fits-step k r anchor h y = record { kept = rw (← y.kept); brought = rw (← y.brought); heads = ready-other 2 (on c 5) (λ z. absurd (omega arith)) h y.heads; foots = ready-other 2 (on c 5) (λ z. absurd (omega arith)) h y.foots; directives = ready-other 2 (on c 5) (λ z. absurd (omega arith)) h y.directives }
+  fits-step k r include h y = record { kept = rw (← y.kept); brought = rw (← y.brought); heads = ready-other 3 (on c 14) (λ z. absurd (omega arith)) h y.heads; foots = ready-other 3 (on c 14) (λ z. absurd (omega arith)) h y.foots; directives = ready-other 3 (on c 14) (λ z. absurd (omega arith)) h y.directives }
   fits-step k r head h y = record { kept = rw (← y.kept, run_more (comment_at deck pool) 6 l.heads.count l.heads.first c (ready-ends h y.heads)); brought = rw (← y.brought); heads = ready-own h y.heads; foots = ready-other 4 (on c 6) (λ z. absurd (omega arith)) h y.foots; directives = ready-other 4 (on c 6) (λ z. absurd (omega arith)) h y.directives }
-  fits-step k r inline h y = record { kept = rw (← y.kept, there c); brought = rw (← y.brought); heads = ready-other 5 (on c 6) (λ z. absurd (omega arith)) h y.heads; foots = ready-other 5 (on c 6) (λ z. absurd (omega arith)) h y.foots; directives = ready-other 5 (on c 6) (λ z. absurd (omega arith)) h y.directives }
+  fits-step k r inline h y = record { kept = rw (← y.kept); brought = rw (← y.brought); heads = ready-other 5 (on c 6) (λ z. absurd (omega arith)) h y.heads; foots = ready-other 5 (on c 6) (λ z. absurd (omega arith)) h y.foots; directives = ready-other 5 (on c 6) (λ z. absurd (omega arith)) h y.directives }
   fits-step k r foot h y = record { kept = rw (← y.kept, run_more (text_of deck pool) 5 l.foots.count l.foots.first c (ready-ends h y.foots)); brought = rw (← y.brought); heads = ready-other 6 (on c 5) (λ z. absurd (omega arith)) h y.heads; foots = ready-own h y.foots; directives = ready-other 6 (on c 5) (λ z. absurd (omega arith)) h y.directives }
-  fits-step k r raw h y = record { kept = rw (← y.kept); brought = rw (← y.brought, there c); heads = ready-other 7 (on c 5) (λ z. absurd (omega arith)) h y.heads; foots = ready-other 7 (on c 5) (λ z. absurd (omega arith)) h y.foots; directives = ready-other 7 (on c 5) (λ z. absurd (omega arith)) h y.directives }
+  fits-step k r raw h y = record { kept = rw (← y.kept); brought = rw (← y.brought); heads = ready-other 7 (on c 5) (λ z. absurd (omega arith)) h y.heads; foots = ready-other 7 (on c 5) (λ z. absurd (omega arith)) h y.foots; directives = ready-other 7 (on c 5) (λ z. absurd (omega arith)) h y.directives }
   fits-step k r directive h y = record { kept = rw (← y.kept, run_more (text_of deck pool) 5 l.directives.count l.directives.first c (ready-ends h y.directives)); brought = rw (← y.brought); heads = ready-other 8 (on c 5) (λ z. absurd (omega arith)) h y.heads; foots = ready-other 8 (on c 5) (λ z. absurd (omega arith)) h y.foots; directives = ready-own h y.directives }
   fits-step k r layout h y = record { kept = rw (← y.kept); brought = rw (← y.brought); heads = ready-other 9 (on c 6) (λ z. absurd (omega arith)) h y.heads; foots = ready-other 9 (on c 6) (λ z. absurd (omega arith)) h y.foots; directives = ready-other 9 (on c 6) (λ z. absurd (omega arith)) h y.directives }
 

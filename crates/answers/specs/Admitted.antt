@@ -9,9 +9,7 @@ use Rattle.definition.specs.Base.{Bytes, when◌then◌else◌}
 use Rattle.definition.specs.Deck.{read_deck}
 use Rattle.definition.specs.Calls.{Lent, Outcome, refused}
 use Rattle.definition.specs.declared.Settings.{Settings}
-use Rattle.judge.specs.declared.Verdict.{Verdict}
-use Rattle.judge.specs.declared.Verdict.TheVariants as verdict
-use Rattle.judge.specs.Judge.{verdict_of}
+use Rattle.judge.specs.Judge.{Verdict, Good, Rejected, verdict_of}
 use Rattle.agree.specs.Accepted as agreed
 use Rattle.agree.proofs.Accepted as agreement
 use Rattle.told.specs.Outcome.{Settled, Small, Judged}
@@ -29,18 +27,18 @@ pub record Admits (s : Settings) (x : Lent) (n : ℕ) : Type 0 where
   pub accepted : agreed.Accepted x.deck x.pool n
 
 unfoldable pub Says : Settings → Lent → Verdict → Type 0
-Says s x (verdict.Good n) = Admits s x n
-Says s x (verdict.Refused n p) = Refuses s x n p
+Says s x (Good n) = Admits s x n
+Says s x (Rejected n p) = Refuses s x n p
 
 -- refusals 1 to 7, or how many trees
 unfoldable pub admit_of : Settings → Bytes → Bytes → ℕ → ℕ → Verdict
 admit_of s deck pool room entries =
     let n = limit_of s (length deck) (length pool) room entries in
     let read = verdict_of (read_deck deck pool) in
-    when eqb n 0 then read else verdict.Refused n 0
+    when eqb n 0 then read else Rejected n 0
 
 module _ (s : Settings) (x : Lent) where
-  over-says : (n : ℕ) → Limited s x n → (n ≡ 0 → ⊥) → Says s x (verdict.Refused n 0)
+  over-says : (n : ℕ) → Limited s x n → (n ≡ 0 → ⊥) → Says s x (Rejected n 0)
   unfolding Says
   over-says n (over-1 z) h = record { refuses = λ call j. refused-1 j x z }
   over-says n (over-2 z l) h = record { refuses = λ call j. refused-2 j x z l }
@@ -50,15 +48,15 @@ module _ (s : Settings) (x : Lent) where
   unfolding Says
   read-says n (over-1 z) h v e = absurd (omega arith)
   read-says n (over-2 z l) h v e = absurd (omega arith)
-  read-says n (within z l) h (verdict.Good k) e = record { settled = z; small = l; accepted = agreement.accepted x.deck x.pool k (sym e) }
-  read-says n (within z l) h (verdict.Refused k p) e =
+  read-says n (within z l) h (Good k) e = record { settled = z; small = l; accepted = agreement.accepted x.deck x.pool k (sym e) }
+  read-says n (within z l) h (Rejected k p) e =
       record { refuses = λ call j. refused-read j x k p z l (agreement.refused x.deck x.pool k p (sym e)) }
 
   pub admit-says : Says s x (admit_of s x.deck x.pool (length x.output) (length x.list))
   unfolding admit_of
   admit-says = go _ (limited s x) (eqb (limit_of s (length x.deck) (length x.pool) (length x.output) (length x.list)) 0) refl
     where
-      go : (n : ℕ) → Limited s x n → (b : Bool) → eqb n 0 ≡ b → Says s x (when b then verdict_of (read_deck x.deck x.pool) else verdict.Refused n 0)
+      go : (n : ℕ) → Limited s x n → (b : Bool) → eqb n 0 ≡ b → Says s x (when b then verdict_of (read_deck x.deck x.pool) else Rejected n 0)
       go n l true e = read-says n l (eqb-true _ _ e) _ refl
       go n l false e = over-says n l (eqb-false _ _ e)
 

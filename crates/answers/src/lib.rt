@@ -1,18 +1,19 @@
 // What every call begins and ends with: the limits and the judge, and the answer that it hands back.
 #![tactic(auto)]
 
-ghost use Rattle.std.specs.Prelude.{◌≡◌, length, replicate};
-ghost use Rattle.answers.specs.Answer.{refusal};
+ghost use Rattle.std.specs.Prelude.{◌≡◌, length};
+ghost use Rattle.definition.specs.Refusal.{number_of};
+ghost use Rattle.judge.specs.Judge.{fault_told, told};
+ghost use Rattle.answers.specs.Answer.{refusal, answer_of};
 ghost use Rattle.answers.specs.Limits.{limit_of};
 ghost use Rattle.answers.specs.Admitted.{admit_of};
 
-use definition::Settings;
-use judge::Verdict;
+use definition::{Fault, Refusal, Settings};
 
-// Number and place of the refusal, 0 and 0 of an answer; how many bytes were written; how many entries were stored; the yes or no of
-// `local_modified`.
+// C reads number and place: those of the refusal, 0 and 0 of an answer. Then how many bytes were written; how many entries were stored; the yes
+// or no of `local_modified`.
 #[repr(C)]
-#[derive(Clone, Copy)]
+#[derive(Clone, Copy, PartialEq, Eq)]
 pub struct Answer {
     pub number: usize,
     pub place: usize,
@@ -21,60 +22,60 @@ pub struct Answer {
     pub modified: bool,
 }
 
-pub fn refuse(number: usize, place: usize) -> Answer
-    ensures { result ≡ refusal number place }
+#[tactic(auto, unfolding(crate::specs::Answer::refusal))]
+pub fn refuse(r: Refusal) -> Answer
+    ensures { result ≡ refusal (number_of r.fault) r.place }
 {
     Answer {
-        number,
-        place,
+        number: r.fault.number(),
+        place: r.place,
         length: 0,
         count: 0,
         modified: false,
     }
 }
 
-pub fn clear(out: &mut [u8])
-    ensures { out.new ≡ replicate (length out.old) 0 }
+// What is handed back of a call that came to an answer or to a refusal.
+pub fn answer_of(outcome: Result<Answer, Refusal>) -> Answer
+    ensures { result ≡ answer_of outcome }
 {
-    let mut i = 0;
-    while i < out.len() {
-        out[i] = 0;
-        i += 1;
+    match outcome {
+        Ok(answer) => answer,
+        Err(refusal) => refuse(refusal),
     }
 }
 
-// Refusal 1 or 2, or 0.
-fn over_limits(deck: &[u8], pool: &[u8], room: usize, entries: usize, settings: Settings) -> usize
-    ensures { result ≡ limit_of settings (length deck.now) (length pool.now) room entries }
+// Refusal 1 or 2, where there is one.
+#[tactic(auto, unfolding(crate::specs::Limits::limit_of, judge::specs::Judge::fault_told))]
+fn over_limits(
+    deck: &[u8],
+    pool: &[u8],
+    room: usize,
+    entries: usize,
+    settings: &Settings,
+) -> Result<(), Fault>
+    ensures { fault_told result ≡ limit_of settings.now (length deck.now) (length pool.now) room entries }
 {
-    if settings.indent > 16 {
-        return 1;
+    if settings.indent > 16 || settings.width > 65535 {
+        return Err(Fault::Setting);
     }
-    if settings.width > 65535 {
-        return 1;
+    if deck.len() > 65536 || pool.len() > 65536 || room > 1048576 || entries > 4096 {
+        return Err(Fault::Size);
     }
-    if deck.len() > 65536 {
-        return 2;
-    }
-    if pool.len() > 65536 {
-        return 2;
-    }
-    if room > 1048576 {
-        return 2;
-    }
-    if entries > 4096 {
-        return 2;
-    }
-    0
+    Ok(())
 }
 
 // Refusals 1 to 7, or how many documents the deck has.
-pub fn admit(deck: &[u8], pool: &[u8], room: usize, entries: usize, settings: Settings) -> Verdict
-    ensures { result ≡ admit_of settings deck.now pool.now room entries }
+#[tactic(auto, unfolding(crate::specs::Admitted::admit_of, judge::specs::Judge::fault_told, judge::specs::Judge::told))]
+pub fn admit(
+    deck: &[u8],
+    pool: &[u8],
+    room: usize,
+    entries: usize,
+    settings: &Settings,
+) -> Result<usize, Refusal>
+    ensures { told result ≡ admit_of settings.now deck.now pool.now room entries }
 {
-    let number = over_limits(deck, pool, room, entries, settings);
-    if number != 0 {
-        return Verdict::Refused { number, place: 0 };
-    }
+    over_limits(deck, pool, room, entries, settings).map_err(|fault| Refusal { fault, place: 0 })?;
     judge::judge(deck, pool)
 }

@@ -1,15 +1,13 @@
 -- Laws of atoms, for the functions that write them.
 -- Assumes nothing.
-use mathlib.Core.Path.{◌≡◌, refl, ap, sym, ◌∙◌}
+use mathlib.Core.Path.{◌≡◌, ap, ◌∙◌}
 use Prim.Native.Nat.{ℕ, zero, suc, ◌≤◌}
 use native.Mathlib.Omega.{arith}
 use mathlib.Core.Bool.{Bool, true, false, not, ◌&&◌}
 use mathlib.Core.List.{[], ◌∷◌}
-use mathlib.Core.Option.{none, some}
 use lib.ListN.{length, take, drop, length-drop}
-use lib.Dec.{eqb, ltb}
-use Rattle.definition.specs.Base.{Bytes, when◌then◌else◌}
-use Rattle.definition.specs.Ascii.{'*', '>', '|'}
+use Rattle.definition.specs.Base.{Bytes}
+use Rattle.definition.specs.Ascii.{'*'}
 use Rattle.definition.specs.Records.{text_at}
 use Rattle.definition.specs.Scalar.{marker_of}
 use Rattle.definition.specs.Deck.{words}
@@ -17,15 +15,15 @@ use Rattle.definition.specs.Pen.{Script}
 use Rattle.definition.specs.Walk.{is_block_style, replays}
 use Rattle.definition.specs.declared.Settings.{Settings}
 use Rattle.definition.specs.declared.Style.{Style}
-use Rattle.definition.specs.declared.Style.TheVariants.{Plain, Single, Double, Literal, Folded}
 use Rattle.definition.specs.declared.Text.{Text}
-use Rattle.node.specs.declared.Held.{Held}
-use Rattle.node.specs.declared.Remark.{Remark}
+use Rattle.std.specs.Prelude.{None, Some}
+use Rattle.definition.specs.declared.Cursor.{Cursor}
+use Rattle.node.specs.Head.{Maybe, there}
 use Rattle.node.specs.Total.{held_of, remark_of}
 use Rattle.laws.specs.Leaf.{scalar_bytes}
 use Rattle.pen.specs.Pen.{Pen, put1, puts, rawed, ink}
 use Rattle.pen.specs.Draws.{Draws}
-use Rattle.atoms.specs.Atoms.{on, number_of, commented, fresh_in, remark-some}
+use Rattle.atoms.specs.Atoms.{commented, fresh_in, remark-some}
 
 take_short : (n : ℕ) (s : Bytes) → length (take n s) ≤ length s
 take_short zero s = omega arith
@@ -42,54 +40,33 @@ pub starred : (pool : Bytes) (x : Text) (P : Pen) {Q R : Pen} (t : Bytes) → t 
 unfolding puts
 starred pool x P t e f g = rw (← e) (g ∙ ap (puts t) f)
 
--- what a style's number says
-pub block-number : (y : Style) → ltb 2 (number_of y) ≡ is_block_style y
-unfolding number_of is_block_style
-block-number Plain = refl
-block-number Single = refl
-block-number Double = refl
-block-number Literal = refl
-block-number Folded = refl
-
-pub marker-number : (y : Style) → (when eqb (number_of y) 4 then '>' else '|') ≡ marker_of y
-unfolding number_of marker_of
-marker-number Plain = refl
-marker-number Single = refl
-marker-number Double = refl
-marker-number Literal = refl
-marker-number Folded = refl
-
 -- a scalar that is not replayed: with a comment on its header, and otherwise
 pub with-comment :
-    (s : Settings) (flow key : Bool) (i p : ℕ) (deck pool : Bytes) (m : Remark) (x : Text) (y : Style) {t : Bytes} {marker : ℕ} {r : Bool} {P Q : Pen}
-    → r ≡ (on m.at && is_block_style y && not flow) → r ≡ true → t ≡ words pool x → marker ≡ marker_of y
+    (s : Settings) (flow key : Bool) (i p : ℕ) (deck pool : Bytes) (m : Maybe) (x : Text) (y : Style) {t : Bytes} {marker : ℕ} {r : Bool} {P Q : Pen}
+    → r ≡ (there m && is_block_style y && not flow) → r ≡ true → t ≡ words pool x → marker ≡ marker_of y
     → Draws (commented marker i p (remark_of deck pool m) t) P Q → Q ≡ ink s (fresh_in flow key i p (remark_of deck pool m) (words pool x) y) P
 unfolding fresh_in
 with-comment s flow key i p deck pool m x y e f g h d = rw (remark-some deck pool m, ← e, f, ← g, ← h) (d.drawn s)
 
 pub without-comment :
-    (s : Settings) (flow key : Bool) (i p : ℕ) (deck pool : Bytes) (m : Remark) (x : Text) (y : Style) (P : Pen) {Q : Pen} {t : Bytes} {r : Bool}
-    → r ≡ (on m.at && is_block_style y && not flow) → r ≡ false → t ≡ words pool x
+    (s : Settings) (flow key : Bool) (i p : ℕ) (deck pool : Bytes) (m : Maybe) (x : Text) (y : Style) (P : Pen) {Q : Pen} {t : Bytes} {r : Bool}
+    → r ≡ (there m && is_block_style y && not flow) → r ≡ false → t ≡ words pool x
     → Q ≡ puts (scalar_bytes s flow key t y i P.w.column) P → Q ≡ ink s (fresh_in flow key i p (remark_of deck pool m) (words pool x) y) P
 unfolding fresh_in ink
 without-comment s flow key i p deck pool m x y P e f g d = rw (remark-some deck pool m, ← e, f, ← g) d
 
 -- a raw text: put aside, or replayed
-module _ (s : Settings) (p : ℕ) (deck pool : Bytes) (h : Held) (modified : Bool) (a : Script) (P : Pen) {Q : Pen} {r : Bool} (is : r ≡ (on h.at && not modified)) where
-  pub aside : r ≡ false → Q ≡ ink s a P → Q ≡ ink s (replays p (held_of deck pool h) modified a) P
-  unfolding replays held_of on
-  aside f d = go (eqb h.at 0) modified (sym is ∙ f)
-    where
-      go : (b m : Bool) → (not b && not m) ≡ false → Q ≡ ink s (replays p (when b then none else some (words pool (text_at deck h.at))) m a) P
-      go true m z = d
-      go false true z = d
-      go false false z = cc
+module _ (s : Settings) (p : ℕ) (deck pool : Bytes) (a : Script) (P : Pen) {Q : Pen} where
+  pub aside : (h : Maybe) (modified : Bool) → modified ≡ true → Q ≡ ink s a P → Q ≡ ink s (replays p (held_of deck pool h) modified a) P
+  unfolding replays held_of
+  aside None m e d = d
+  aside (Some c) m e d = rw e d
 
-  pub again : {t : Bytes} {x : Text} → r ≡ true → x ≡ text_at deck h.at → t ≡ words pool x → Q ≡ rawed t P → Q ≡ ink s (replays p (held_of deck pool h) modified a) P
-  unfolding replays held_of ink on
-  again f k g d = go (eqb h.at 0) modified (sym is ∙ f)
-    where
-      go : (b m : Bool) → (not b && not m) ≡ true → Q ≡ ink s (replays p (when b then none else some (words pool (text_at deck h.at))) m a) P
-      go false false z = rw (← k, ← g) d
-      go false true z = cc
-      go true m z = cc
+  pub bare : (h : Maybe) (modified : Bool) → h ≡ None → Q ≡ ink s a P → Q ≡ ink s (replays p (held_of deck pool h) modified a) P
+  unfolding replays held_of
+  bare h m e d = rw e d
+
+  pub again : (h : Maybe) (modified : Bool) {t : Bytes} {x : Text} {c : Cursor} → modified ≡ false → h ≡ Some c → x ≡ text_at deck c.at → t ≡ words pool x → Q ≡ rawed t P
+      → Q ≡ ink s (replays p (held_of deck pool h) modified a) P
+  unfolding replays held_of ink
+  again h m e f k g d = rw (f, e, ← k, ← g) d

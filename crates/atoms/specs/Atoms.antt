@@ -1,26 +1,33 @@
 -- What is written of a node without children, from what its head says of it alone.
 use Rattle.std.specs.Prelude.{ℕ, ◌≡◌, refl, Bool, true, false, not, ◌&&◌, [], ◌∷◌, eqb}
-use Rattle.std.proofs.Math.Option.{Option, none, some}
+use Rattle.std.proofs.Math.Option.{Option}
 use Rattle.definition.specs.Base.{Bytes, when◌then◌else◌, is_some}
 use Rattle.definition.specs.Ascii.{'~'}
 use Rattle.definition.specs.Block.{block_header, block_body}
 use Rattle.definition.specs.Settings.{is_tilde}
 use Rattle.definition.specs.Scalar.{marker_of}
-use Rattle.definition.specs.Records.{trailer_at}
 use Rattle.definition.specs.Tree.{Inline}
-use Rattle.definition.specs.Deck.{marked, inline_of}
+use Rattle.definition.specs.Deck.{marked}
 use Rattle.definition.specs.Pen.{text, Script, put, comment, leaf, ◌>>◌}
 use Rattle.definition.specs.Walk.{is_block_style}
 use Rattle.definition.specs.declared.Lines.{Lines}
 use Rattle.definition.specs.declared.Settings.{Settings}
 use Rattle.definition.specs.declared.Style.{Style}
 use Rattle.definition.specs.declared.Style.TheVariants.{Plain, Single, Double, Literal, Folded}
-use Rattle.node.specs.declared.Remark.{Remark}
+use Rattle.pen.specs.Pen.{from_bool}
+use Rattle.std.specs.Prelude.{None, Some}
+use Rattle.node.specs.Head.{Maybe, there}
 use Rattle.node.specs.Total.{remark_of}
 
 -- a mark or a depth that is not 0
 unfoldable pub on : ℕ → Bool
 on n = not (eqb n 0)
+
+-- a yes or no that a number tells
+pub on-bit : (b : Bool) (n : ℕ) → from_bool b ≡ n → b ≡ on n
+unfolding on
+on-bit true n e = rw (← e)
+on-bit false n e = rw (← e)
 
 -- a number for each style: the deck's
 unfoldable pub number_of : Style → ℕ
@@ -43,10 +50,7 @@ unfoldable pub fresh_in : Bool → Bool → ℕ → ℕ → Option Inline → By
 fresh_in flow key i p m t y = when is_some m && is_block_style y && not flow then commented (marker_of y) i p m t else leaf p flow key t y i
 
 -- an inline comment is there
-pub remark-some : (deck pool : Bytes) (m : Remark) → is_some (remark_of deck pool m) ≡ on m.at
-unfolding on remark_of is_some
-remark-some deck pool m = go (eqb m.at 0)
-  where
-    go : (b : Bool) → is_some (when b then none else some (inline_of pool (trailer_at deck m.at))) ≡ not b
-    go true = refl
-    go false = refl
+pub remark-some : (deck pool : Bytes) (m : Maybe) → is_some (remark_of deck pool m) ≡ there m
+unfolding remark_of is_some
+remark-some deck pool None = refl
+remark-some deck pool (Some c) = refl

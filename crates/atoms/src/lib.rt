@@ -7,36 +7,34 @@ ghost use Rattle.definition.specs.Settings.{is_tilde};
 ghost use Rattle.definition.specs.Scalar.{marker_of};
 ghost use Rattle.definition.specs.Deck.{marked, words};
 ghost use Rattle.definition.specs.Walk.{is_block_style, replays};
-ghost use Rattle.terms.specs.Terms.{settings_in};
+ghost use Rattle.node.specs.Head.{there};
 ghost use Rattle.node.specs.Total.{held_of, remark_of};
 ghost use Rattle.pen.specs.Pen.{fields, pen, puts, ink};
 ghost use Rattle.pen.specs.Draws.{Draws};
-ghost use Rattle.atoms.specs.Atoms.{on, number_of, null_in, commented, fresh_in};
+ghost use Rattle.atoms.specs.Atoms.{on, null_in, commented, fresh_in};
 
 use blocks::{put_block_body, put_header};
 use deck::is_marked;
-use definition::{Lines, Style, Text, Words};
-use node::{Held, Remark};
+use definition::{Cursor, Lines, NullStyle, Settings, Style, Text, Words};
+use given::Given;
 use parts::put_remark;
 use pen::Writer;
 use scalar::put_scalar;
-use terms::Terms;
+use spot::Spot;
 
 // A null that was edited in, where those are written `~`.
-fn is_tilde_null(terms: Terms, lines: Lines) -> bool
-    ensures { result ≡ (marked lines.marks 8 && is_tilde (settings_in terms).null_style) }
+#[tactic(auto, unfolding(definition::specs::Settings::is_tilde))]
+fn is_tilde_null(settings: &Settings, lines: &Lines) -> bool
+    ensures { result ≡ (marked lines.now.marks 8 && is_tilde settings.now.null_style) }
 {
-    if is_marked(lines.marks, 8) {
-        return terms.is_tilde();
-    }
-    false
+    is_marked(lines.marks, 8) && settings.null_style == NullStyle::Tilde
 }
 
-pub fn put_null(w: Writer, out: &mut [u8], terms: Terms, lines: Lines) -> Writer
+pub fn put_null(w: Writer, out: &mut [u8], settings: &Settings, lines: &Lines) -> Writer
     requires { length out.old < 2 ^ 21 }
-    ensures { pen result out.new ≡ puts (null_in (settings_in terms) lines) (pen w out.old) }
+    ensures { pen result out.new ≡ puts (null_in settings.now lines.now) (pen w out.old) }
 {
-    if is_tilde_null(terms, lines) {
+    if is_tilde_null(settings, lines) {
         return w.byte(out, b'~');
     }
     w.text(out, b"null")
@@ -50,127 +48,85 @@ pub fn put_alias(w: Writer, pool: &[u8], out: &mut [u8], t: Text) -> Writer
     w1.text(out, deck::words_of(pool, t))
 }
 
-// A number for each style, the deck's: 0 plain, 1 single quoted, 2 double quoted, 3 literal, 4 folded.
-pub fn number_of(style: Style) -> usize
-    ensures { result ≡ number_of style }
-{
-    match style {
-        Style::Plain => 0,
-        Style::Single => 1,
-        Style::Double => 2,
-        Style::Literal => 3,
-        Style::Folded => 4,
-    }
-}
-
+#[tactic(auto, unfolding(definition::specs::Walk::is_block_style))]
 pub fn is_block_style(style: Style) -> bool
     ensures { result ≡ is_block_style style }
 {
-    number_of(style) > 2
+    matches!(style, Style::Literal | Style::Folded)
 }
 
 // The marker of a block scalar.
+#[tactic(auto, unfolding(definition::specs::Scalar::marker_of))]
 fn marker_of(style: Style) -> u8
     ensures { result ≡ marker_of style }
 {
-    if number_of(style) == 4 {
-        return b'>';
-    }
-    b'|'
+    if style == Style::Folded { b'>' } else { b'|' }
 }
 
 // The inline comment goes on a block scalar's header.
-fn is_on_header(remark: Remark, style: Style, flow: bool) -> bool
-    ensures { result ≡ (on remark.at && is_block_style style && not flow) }
+fn is_on_header(remark: Option<Cursor>, style: Style, flow: bool) -> bool
+    ensures { result ≡ (there remark && is_block_style style && not flow) }
 {
-    if remark.at == 0 {
-        return false;
-    }
-    if is_block_style(style) {
-        return !flow;
-    }
-    false
+    remark.is_some() && is_block_style(style) && !flow
 }
 
 // A block scalar with an inline comment on its header.
 fn put_commented(
     w: Writer,
-    deck: &[u8],
-    pool: &[u8],
+    given: &Given,
     out: &mut [u8],
     marker: u8,
     i: usize,
-    place: usize,
-    remark: Remark,
+    x: &Spot,
     t: &[u8],
 ) -> Writer
-    requires { (length out.old < 2 ^ 21) × (place < 2 ^ 18) }
-    ensures { Draws (commented marker i place (remark_of deck.now pool.now remark) t.now) (pen w out.old) (pen result out.new) }
+    requires { (length out.old < 2 ^ 21) × (x.now.place < 2 ^ 18) }
+    ensures { Draws (commented marker i x.now.place (remark_of given.now.deck.now given.now.pool.now x.now.lead.remark) t.now) (pen w out.old) (pen result out.new) }
 {
     let w1 = put_header(w, out, t, marker);
-    let w2 = put_remark(w1, deck, pool, out, place, remark);
+    let w2 = put_remark(w1, given, out, x.place, x.lead.remark);
     put_block_body(w2, out, t, i)
 }
 
 // A scalar that is not replayed.
-fn put_fresh(
-    w: Writer,
-    deck: &[u8],
-    pool: &[u8],
-    out: &mut [u8],
-    terms: Terms,
-    i: usize,
-    place: usize,
-    remark: Remark,
-    said: Words,
-) -> Writer
-    requires { (length out.old < 2 ^ 21) × (length pool.now ≤ 65536) × (place < 2 ^ 18) }
-    ensures { pen result out.new ≡ ink (settings_in terms)
-        (fresh_in (on (fields w).flow) (on (fields w).key) i place (remark_of deck.now pool.now remark) (words pool.now said.text) said.style)
+fn put_fresh(w: Writer, given: &Given, out: &mut [u8], i: usize, x: &Spot, said: &Words) -> Writer
+    requires { (length out.old < 2 ^ 21) × (length given.now.pool.now ≤ 65536) × (x.now.place < 2 ^ 18) }
+    ensures { pen result out.new ≡ ink given.now.settings
+        (fresh_in (on (fields w).flow) (on (fields w).key) i x.now.place (remark_of given.now.deck.now given.now.pool.now x.now.lead.remark) (words given.now.pool.now said.now.text) said.now.style)
         (pen w out.old) }
 {
     let flow = w.flow() != 0;
-    let key = w.key() != 0;
-    let style = said.style;
-    let t = deck::words_of(pool, said.text);
-    if is_on_header(remark, style, flow) {
-        return put_commented(w, deck, pool, out, marker_of(style), i, place, remark, t);
+    let key = w.is_key();
+    let t = deck::words_of(given.pool, said.text);
+    if is_on_header(x.lead.remark, said.style, flow) {
+        return put_commented(w, given, out, marker_of(said.style), i, x, t);
     }
-    put_scalar(w, out, terms, flow, key, t, style, i)
-}
-
-// There is a raw text, and the node is not modified.
-fn is_replayed(raw: Held, modified: bool) -> bool
-    ensures { result ≡ (on raw.at && not modified) }
-{
-    if raw.at == 0 {
-        return false;
-    }
-    !modified
+    put_scalar(w, out, &given.settings, flow, key, t, said.style, i)
 }
 
 // A scalar: its raw text is replayed unless the node is modified.
 pub fn put_words(
     w: Writer,
-    deck: &[u8],
-    pool: &[u8],
+    given: &Given,
     out: &mut [u8],
-    terms: Terms,
     i: usize,
-    place: usize,
-    remark: Remark,
-    raw: Held,
-    modified: bool,
-    said: Words,
+    x: &Spot,
+    said: &Words,
 ) -> Writer
-    requires { (length out.old < 2 ^ 21) × (length pool.now ≤ 65536) × (place < 2 ^ 18) }
-    ensures { pen result out.new ≡ ink (settings_in terms)
-        (replays place (held_of deck.now pool.now raw) modified
-        (fresh_in (on (fields w).flow) (on (fields w).key) i place (remark_of deck.now pool.now remark) (words pool.now said.text) said.style))
+    requires { (length out.old < 2 ^ 21) × (length given.now.pool.now ≤ 65536) × (x.now.place < 2 ^ 18) }
+    ensures { pen result out.new ≡ ink given.now.settings
+        (replays x.now.place (held_of given.now.deck.now given.now.pool.now x.now.lead.raw) (marked x.now.lead.lines.marks 1)
+        (fresh_in (on (fields w).flow) (on (fields w).key) i x.now.place (remark_of given.now.deck.now given.now.pool.now x.now.lead.remark) (words given.now.pool.now said.now.text) said.now.style))
         (pen w out.old) }
 {
-    if is_replayed(raw, modified) {
-        return w.replay(out, deck::words_of(pool, deck::text_in(deck, raw.at)));
+    if is_marked(x.lead.lines.marks, 1) {
+        return put_fresh(w, given, out, i, x, said);
     }
-    put_fresh(w, deck, pool, out, terms, i, place, remark, said)
+    match x.lead.raw {
+        Some(c) => w.replay(
+            out,
+            deck::words_of(given.pool, deck::text_in(given.deck, c.at)),
+        ),
+        None => put_fresh(w, given, out, i, x, said),
+    }
 }

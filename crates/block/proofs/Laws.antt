@@ -6,6 +6,7 @@ use native.Mathlib.Omega.{arith}
 use mathlib.Core.Bool.{Bool, true, false}
 use lib.ListN.{length}
 use lib.Dec.{eqb}
+use borrow.Author.Tests.{ne_eqb}
 use Rattle.definition.specs.Base.{Bytes, when◌then◌else◌}
 use Rattle.definition.specs.Ascii.{SP, '-', '?'}
 use Rattle.definition.specs.Settings.{step_of}
@@ -21,8 +22,8 @@ use Rattle.parts.specs.Lines.{before, breaks, colon_open, dash_open}
 use Rattle.spot.specs.declared.Body.{Body}
 use Rattle.spot.specs.declared.Body.TheVariants as body
 use Rattle.spot.specs.declared.Spot.{Spot}
-use Rattle.spot.specs.Spot.{case_of, kind_of, end_of, kept_in, brought_in, kind_in, end_in, node_in, spot_at, tree-value}
-use Rattle.spot.specs.Good.{Good, is_group, count_in}
+use Rattle.spot.specs.Spot.{count_in, pairs_in, kind_of, end_of, kept_in, brought_in, kind_in, end_in, node_in, spot_at, tree-value}
+use Rattle.spot.specs.Good.{Good, is_group}
 use Rattle.atoms.specs.Atoms.{on}
 use Rattle.choices.specs.Choices.{block_in, block-is, explicit_in, explicit-is, included_in, included-is, value_column_in, value-column-is, item_column_in, item-column-is, on_dash_line_in, on-dash-line-is}
 use Rattle.joints.specs.declared.Manner.TheVariants.{Key}
@@ -33,6 +34,17 @@ use Rattle.layout.specs.Calm.{Calm, calm-after, calm-further}
 use Rattle.layout.specs.Emitting.{drawn-first, drawn-last, emits-yes, emits-no}
 use Rattle.layout.specs.Stretch.{include_after, key_line, bare_line}
 use Rattle.block.specs.Rows.{opening_of, under_of, dash_in, Footed, Coloned, explicit_key, key_part, item_row, pair_row, row_of, rows, rows-items, rows-pairs}
+
+-- ---- the members that are left at the first turn, and one turn later; one that is not the first
+
+pub first-left : (n : ℕ) → n - 0 ≡ n
+first-left n = omega arith
+
+pub next-left : (n k : ℕ) → n - (k + 1) ≡ n - k - 1
+next-left n k = omega arith
+
+pub later : (k : ℕ) → eqb (k + 1) 0 ≡ false
+later k = ne_eqb (k + 1) 0 (λ e. absurd (omega (arith, e)))
 
 -- ---- the node at a cursor
 
@@ -58,8 +70,8 @@ module _ (s : Settings) (deck pool : Bytes) where
   -- a body that is no collection has no rows
   rows_of :
       (i : ℕ) (begin : Bool) (b : Body) (c : Cursor) (P : Pen)
-      → (ink s (rows s deck pool i (eqb (case_of b) 4) begin true (count_in b) c) P ≡ ink s (members s i begin (kind_of deck pool b c)) P) × (run_end deck pool (eqb (case_of b) 4) (count_in b) c ≡ end_of deck pool b c)
-  unfolding case_of count_in members rows run_end kind_of end_of
+      → (ink s (rows s deck pool i (pairs_in b) begin true (count_in b) c) P ≡ ink s (members s i begin (kind_of deck pool b c)) P) × (run_end deck pool (pairs_in b) (count_in b) c ≡ end_of deck pool b c)
+  unfolding pairs_in count_in members rows run_end kind_of end_of
   rows_of i begin body.Null c P = (refl, refl)
   rows_of i begin (body.Scalar w) c P = (refl, refl)
   rows_of i begin (body.Alias t) c P = (refl, refl)
@@ -67,8 +79,8 @@ module _ (s : Settings) (deck pool : Bytes) where
   rows_of i begin (body.Mapping g) c P = (sym (rows-pairs s deck pool i begin true g.count c P), sym (pairs_end deck pool g.count c))
 
   pub members-rows :
-      (x : Spot) (i : ℕ) (begin : Bool) (k n : ℕ) (r : Cursor) {P Q : Pen} → Good deck x → k ≡ case_of x.body → n ≡ count_in x.body
-      → Emits s (rows s deck pool i (eqb k 4) begin true n x.next) P Q x.next.at (run_end deck pool (eqb k 4) n x.next) r (length deck)
+      (x : Spot) (i : ℕ) (begin k : Bool) (n : ℕ) (r : Cursor) {P Q : Pen} → Good deck x → k ≡ pairs_in x.body → n ≡ count_in x.body
+      → Emits s (rows s deck pool i k begin true n x.next) P Q x.next.at (run_end deck pool k n x.next) r (length deck)
       → Emits s (members s i begin (kind_in deck pool x)) P Q x.place (end_in deck pool x) r (length deck)
   members-rows x i begin k n r {P} g e f m =
       let t = rw (← e, ← f) at (rows_of i begin x.body x.next P) in

@@ -1,68 +1,117 @@
 -- Block scalars, a turn at a time: the lines, the line breaks at the end, the header and the body from their parts.
 use Prim.Native.Nat.{ℕ, zero, suc, ◌+◌, ◌-◌, ◌≤◌, ◌<◌}
 use native.Mathlib.Omega.{arith}
-use native.Mathlib.Numerals.{add-one}
 use mathlib.Core.Path.{◌≡◌, refl, sym, ap, ◌∙◌}
-use mathlib.Core.Bool.{Bool, true, false}
-use mathlib.Core.List.{[], ◌∷◌, ◌++◌, append-nil}
-use lib.ListN.{length, get_or, drop, take, replicate}
-use lib.Seq.{drop-cons, take-suc}
-use borrow.Author.Tests.{eq-eqb, ne_eqb}
-use Rattle.pen.specs.Pen.{Pen, put1, puts, puts-append, and_then}
-use Rattle.pen.specs.Runs.{Run, parted, run_length}
-use Rattle.laws.specs.Tests.{Every, more}
+use mathlib.Core.Bool.{Bool, true, false, cond}
+use mathlib.Core.List.{List, [], ◌∷◌, ◌++◌, append_assoc, append-nil, map}
+use mathlib.Core.Logic.{◌⊎◌, inl, inr}
+use lib.ListN.{length, take, replicate, length-replicate}
+use lib.Dec.{eqb}
+use borrow.Author.Tests.{eqb-true, eq-eqb, ne_eqb}
+use denote.Ref.{Bor}
+use Rattle.std.specs.Prelude.{reverse}
+use Rattle.std.specs.List.{prefix_len, slice_split, onto_first}
+use Rattle.std.proofs.lemmas.List.{reverse-append, length-reverse}
+use Rattle.std.proofs.lemmas.List.Folds.{prefix_len-append}
+use Rattle.pen.specs.Pen.{Pen, put1, puts, and_then}
 use Rattle.definition.specs.Base.{Bytes, when◌then◌else◌, spaces}
-use Rattle.definition.specs.Block.{trailing, trimmed, chomping, indented, beyond, block_header, block_body}
-use Rattle.laws.specs.Trim.{trimmed-take, trailing-break, trailing-other, nothing_left, something-left}
+use Rattle.definition.specs.Ascii.{LF}
+use Rattle.definition.specs.Block.{all_breaks, trailing, trimmed, chomping, indented, beyond, block_header, block_body}
+use Rattle.laws.specs.Trim.{trimmed-take, trailing_le, breaks-all, nothing_left, something-left}
 
--- what holds of a byte and the text after it holds at a place of a text
-along : (F : Bytes → ℕ → Bytes → Type 0) (s : Bytes) (i : ℕ) → i < length s → ((a : ℕ) (t : Bytes) → F (a ∷ t) a t) → F (drop i s) (get_or s i 0) (drop (i + 1) s)
-along F s i h k = rw (add-one, drop-cons s i 0 h) (k (get_or s i 0) (drop (suc i) s))
+-- ---- the lines
 
-module _ (n : ℕ) (s : Bytes) (i : ℕ) (h : i < length s) where
-  pub line-broken : (fresh : Bool) (P P₁ : Pen) → get_or s i 0 ≡ 10 → P₁ ≡ put1 P 10 → puts (indented n true (drop (i + 1) s)) P₁ ≡ puts (indented n fresh (drop i s)) P
-  unfolding indented puts
-  line-broken fresh P P₁ e w =
-      rw w (along (λ x a t. a ≡ 10 → puts (indented n true t) (put1 P 10) ≡ puts (indented n fresh x) P) s i h (λ a t e. rw (eq-eqb a 10 e)) e)
+-- a line with its line break; lines; and what is left of lines the first of which has begun
+abbrev pub line : ℕ → Bytes → Bytes
+line n [] = LF ∷ []
+line n (b ∷ l) = spaces n ++ ((b ∷ l) ++ (LF ∷ []))
 
--- bytes without a line break
-line-own : (n : ℕ) (fresh : Bool) (x y : Bytes) → Every (λ a. (a ≡ 10 → ⊥)) x → 0 < length x → indented n fresh (x ++ y) ≡ (when fresh then spaces n else []) ++ (x ++ indented n false y)
-unfolding indented
-line-own n fresh [] y ps h = absurd (omega arith)
-line-own n fresh (a ∷ []) y (more p ps) h = rw (ne_eqb a 10 p)
-line-own n fresh (a ∷ b ∷ x) y (more p ps) h = rw (ne_eqb a 10 p, line-own n false (b ∷ x) y ps (omega arith))
+abbrev pub lines : ℕ → List Bytes → Bytes
+lines n [] = []
+lines n (l ∷ ls) = line n l ++ lines n ls
 
-module _ (n : ℕ) (s : Bytes) (i j : ℕ) (r : Run (λ a. (a ≡ 10 → ⊥)) s i j) (h : i < j) where
-  line-run : (fresh : Bool) → indented n fresh (drop i s) ≡ (when fresh then spaces n else []) ++ (take (j - i) (drop i s) ++ indented n false (drop j s))
-  line-run fresh =
-      ap (indented n fresh) (parted s i j r.on)
-      ∙ line-own n fresh (take (j - i) (drop i s)) (drop j s) r.each (rw (run_length (λ a. (a ≡ 10 → ⊥)) s i j r) (omega arith))
+abbrev begun : ℕ → List Bytes → Bytes
+begun n [] = LF ∷ []
+begun n (l ∷ ls) = l ++ (LF ∷ lines n ls)
 
-  pub line-begun : (fresh : Bool) (P P₁ P₂ : Pen) → fresh ≡ true → P₁ ≡ puts (spaces n) P → P₂ ≡ puts (take (j - i) (drop i s)) P₁
-      → puts (indented n false (drop j s)) P₂ ≡ puts (indented n fresh (drop i s)) P
-  line-begun fresh P P₁ P₂ g w v =
-      rw (v, w, g, line-run true) (sym (puts-append (spaces n) _ P ∙ puts-append (take (j - i) (drop i s)) _ (puts (spaces n) P)))
+lines-onto : (n b : ℕ) (ls : List Bytes) → lines n (onto_first b ls) ≡ spaces n ++ (b ∷ begun n ls)
+lines-onto n b [] = append-nil (spaces n ++ (b ∷ LF ∷ []))
+lines-onto n b (l ∷ ls) = append_assoc (spaces n) ((b ∷ l) ++ (LF ∷ [])) (lines n ls) ∙ ap (λ (x : Bytes). spaces n ++ (b ∷ x)) (append_assoc l (LF ∷ []) (lines n ls))
 
-  pub line_on : (fresh : Bool) (P P₁ : Pen) → fresh ≡ false → P₁ ≡ puts (take (j - i) (drop i s)) P
-      → puts (indented n false (drop j s)) P₁ ≡ puts (indented n fresh (drop i s)) P
-  line_on fresh P P₁ g v = rw (v, g, line-run false) (sym (puts-append (take (j - i) (drop i s)) _ P))
+begun-onto : (n b : ℕ) (ls : List Bytes) → begun n (onto_first b ls) ≡ b ∷ begun n ls
+begun-onto n b [] = refl
+begun-onto n b (l ∷ ls) = refl
+
+mutual
+  unfolding indented
+
+  pub by_lines : (n : ℕ) (s : Bytes) → indented n true s ≡ lines n (slice_split (λ b. eqb b 10) s)
+  by_lines n [] = refl
+  by_lines n (b ∷ s) = go (eqb b LF) (by_lines n s) (by_begun n s)
+    where
+      go : (k : Bool) → indented n true s ≡ lines n (slice_split (λ b. eqb b 10) s) → indented n false s ≡ begun n (slice_split (λ b. eqb b 10) s)
+          → (when k then LF ∷ indented n true s else spaces n ++ (b ∷ indented n false s)) ≡ lines n (cond k ([] ∷ slice_split (λ b. eqb b 10) s) (onto_first b (slice_split (λ b. eqb b 10) s)))
+      go true e f = ap (λ (x : Bytes). LF ∷ x) e
+      go false e f = rw f (sym (lines-onto n b (slice_split (λ b. eqb b 10) s)))
+
+  by_begun : (n : ℕ) (s : Bytes) → indented n false s ≡ begun n (slice_split (λ b. eqb b 10) s)
+  by_begun n [] = refl
+  by_begun n (b ∷ s) = go (eqb b LF) (by_lines n s) (by_begun n s)
+    where
+      go : (k : Bool) → indented n true s ≡ lines n (slice_split (λ b. eqb b 10) s) → indented n false s ≡ begun n (slice_split (λ b. eqb b 10) s)
+          → (when k then LF ∷ indented n true s else b ∷ indented n false s) ≡ begun n (cond k ([] ∷ slice_split (λ b. eqb b 10) s) (onto_first b (slice_split (λ b. eqb b 10) s)))
+      go true e f = ap (λ (x : Bytes). LF ∷ x) e
+      go false e f = rw f (sym (begun-onto n b (slice_split (λ b. eqb b 10) s)))
+
+-- one line more is written
+lines-push : (n : ℕ) (ls : List Bytes) (l : Bytes) → lines n (ls ++ (l ∷ [])) ≡ lines n ls ++ line n l
+lines-push n [] l = append-nil (line n l)
+lines-push n (x ∷ ls) l = ap (λ (r : Bytes). line n x ++ r) (lines-push n ls l) ∙ sym (append_assoc (line n x) (lines n ls) (line n l))
+
+now-push : (xs : List (Bor Bytes)) (x : Bor Bytes) → map (λ (y : Bor Bytes). y.now) (xs ++ (x ∷ [])) ≡ map (λ (y : Bor Bytes). y.now) xs ++ (x.now ∷ [])
+now-push [] x = refl
+now-push (y ∷ xs) x = ap (λ (r : List Bytes). y.now ∷ r) (now-push xs x)
+
+pub line_on : (n : ℕ) (xs : List (Bor Bytes)) (x : Bor Bytes) (P Q R : Pen) → Q ≡ puts (lines n (map (λ (y : Bor Bytes). y.now) xs)) P → R ≡ puts (line n x.now) Q
+    → R ≡ puts (lines n (map (λ (y : Bor Bytes). y.now) (xs ++ (x ∷ [])))) P
+line_on n xs x P Q R e f = rw (now-push xs x, lines-push n (map (λ (y : Bor Bytes). y.now) xs) x.now) (and_then P _ _ e f)
+
+pub line_some : (n : ℕ) (l : Bytes) (P P₁ P₂ P₃ : Pen) → (length l ≡ 0 → ⊥) → P₁ ≡ puts (spaces n) P → P₂ ≡ puts l P₁ → P₃ ≡ put1 P₂ 10 → P₃ ≡ puts (line n l) P
+unfolding puts
+line_some n [] P P₁ P₂ P₃ h a b c = absurd (h refl)
+line_some n (x ∷ l) P P₁ P₂ P₃ h a b c = and_then P (spaces n) ((x ∷ l) ++ (10 ∷ [])) a (and_then P₁ (x ∷ l) (10 ∷ []) b c)
+
+pub line_none : (n : ℕ) (l : Bytes) (P P₁ : Pen) → length l ≡ 0 → P₁ ≡ put1 P 10 → P₁ ≡ puts (line n l) P
+unfolding puts
+line_none n [] P P₁ h a = a
+line_none n (x ∷ l) P P₁ h a = absurd (omega arith)
 
 -- ---- the line breaks at the end, counted backward
 
-module _ (s : Bytes) (n : ℕ) where
-  pub trailing-on : (left : ℕ) → 0 < left → left ≤ length s → get_or s (left - 1) 0 ≡ 10 → trailing s ≡ n + trailing (take left s) → trailing s ≡ n + 1 + trailing (take (left - 1) s)
-  trailing-on zero p l e h = absurd (omega arith)
-  trailing-on (suc m) p l e h =
-      let z : suc m - 1 ≡ m = omega arith in
-      let t : trailing (take (suc m) s) ≡ suc (trailing (take m s)) = rw (take-suc s m 0 (omega (arith, l)), rw z at e) (trailing-break (take m s)) in
-      rw z (omega (arith, h, t))
+all-trailing : (s : Bytes) → all_breaks s ≡ eqb (trailing s) (length s)
+unfolding trailing all_breaks
+all-trailing [] = refl
+all-trailing (b ∷ s) = go (all_breaks (b ∷ s)) refl
+  where
+    go : (k : Bool) → all_breaks (b ∷ s) ≡ k → k ≡ eqb (when k then suc (trailing s) else trailing s) (suc (length s))
+    go true e =
+        let h : trailing (b ∷ s) ≡ suc (trailing s) = rw e in
+        let l = ap length (breaks-all (b ∷ s) e) in
+        sym (eq-eqb (suc (trailing s)) (suc (length s)) (omega (arith, h, l, length-replicate (trailing (b ∷ s)) LF)))
+    go false e = sym (ne_eqb (trailing s) (suc (length s)) (λ q. let h = trailing_le s in omega (arith, q, h)))
 
-  pub trailing-stop : (left : ℕ) → 0 < left → left ≤ length s → (get_or s (left - 1) 0 ≡ 10 → ⊥) → trailing s ≡ n + trailing (take left s) → n ≡ trailing s
-  trailing-stop zero p l e h = absurd (omega arith)
-  trailing-stop (suc m) p l e h =
-      let z : suc m - 1 ≡ m = omega arith in
-      let t : trailing (take (suc m) s) ≡ 0 = rw (take-suc s m 0 (omega (arith, l))) (trailing-other (take m s) (get_or s m 0) (ne_eqb (get_or s m 0) 10 (rw z at e))) in
-      omega (arith, h, t)
+pub counted : (s : Bytes) → prefix_len (λ b. eqb b 10) (reverse s) ≡ trailing s
+unfolding trailing all_breaks
+counted [] = refl
+counted (b ∷ s) =
+    let r : reverse (b ∷ s) ≡ reverse s ++ (b ∷ []) = reverse-append (b ∷ []) s in
+    rw (r, prefix_len-append (λ b. eqb b 10) (reverse s) (b ∷ []), counted s, length-reverse s, ← all-trailing s) (go (eqb b LF) (all_breaks s) refl)
+  where
+    go : (j k : Bool) → all_breaks s ≡ k → cond k (length s + cond j 1 0) (trailing s) ≡ (when (when j then k else false) then suc (trailing s) else trailing s)
+    go true true e = let h = eqb-true (trailing s) (length s) (sym (all-trailing s) ∙ e) in omega (arith, h)
+    go false true e = let h = eqb-true (trailing s) (length s) (sym (all-trailing s) ∙ e) in omega (arith, h)
+    go true false e = refl
+    go false false e = refl
 
 many : (t : ℕ) → 1 < t → (x : Bytes) → chomping t x ≡ 43 ∷ []
 unfolding chomping
@@ -75,40 +124,23 @@ module _ (marker : ℕ) (s : Bytes) (t : ℕ) (e : t ≡ trailing s) where
   unfolding block_header chomping
   header-strip h = rw (← e, h)
 
-  pub header-keep : 1 < t → block_header marker s ≡ marker ∷ 43 ∷ []
-  unfolding block_header
-  header-keep h = rw (← e, many t h (trimmed s))
-
-  pub header-breaks : (t ≡ 0 → ⊥) → t ≤ 1 → t ≡ length s → block_header marker s ≡ marker ∷ 43 ∷ []
+  pub header-keep : (t ≡ 0 → ⊥) → ((1 < t) ⊎ ((t ≤ 1) × (t ≡ length s))) → block_header marker s ≡ marker ∷ 43 ∷ []
   unfolding block_header chomping
-  header-breaks n h l = let o : t ≡ 1 = omega arith in rw (← e, o, nothing_left s (sym e ∙ l))
+  header-keep n (inl h) = rw (← e, many t h (trimmed s))
+  header-keep n (inr l) = let o : t ≡ 1 = omega (arith, n, l) in rw (← e, o, nothing_left s (sym e ∙ l.1))
 
   pub header-clip : (t ≡ 0 → ⊥) → t ≤ 1 → (t ≡ length s → ⊥) → block_header marker s ≡ marker ∷ []
   unfolding block_header chomping
   header-clip n h l = let o : t ≡ 1 = omega arith in rw (← e, o, something-left s (λ (q : trailing s ≡ length s). l (e ∙ q)))
 
-beyond-many : (t : ℕ) → 1 < t → replicate (t - 1) 10 ≡ beyond t
+beyond-is : (t : ℕ) → beyond t ≡ replicate (t - 1) 10
 unfolding beyond
-beyond-many zero h = absurd (omega arith)
-beyond-many (suc k) h = let z : suc k - 1 ≡ k = omega arith in ap (λ (m : ℕ). replicate m 10) z
+beyond-is zero = refl
+beyond-is (suc k) = let z : suc k - 1 ≡ k = omega arith in ap (λ (m : ℕ). replicate m 10) (sym z)
 
-beyond-few : (t : ℕ) → t ≤ 1 → beyond t ≡ []
-unfolding beyond
-beyond-few zero h = refl
-beyond-few (suc zero) h = refl
-beyond-few (suc (suc k)) h = absurd (omega arith)
-
-module _ (n : ℕ) (s : Bytes) (t : ℕ) (e : t ≡ trailing s) where
-  pub body_more : (k : ℕ) (P P₁ P₂ P₃ : Pen) → 1 < t → P₁ ≡ put1 P 10 → P₂ ≡ puts (indented n true (take k s)) P₁ → k ≡ length s - t → P₃ ≡ puts (replicate (t - 1) 10) P₂ → P₃ ≡ puts (block_body n s) P
-  unfolding block_body puts
-  body_more k P P₁ P₂ P₃ h a b g c =
-      let l : take k s ≡ trimmed s = rw (g, e) (trimmed-take s) in
-      let d : P₃ ≡ puts (beyond (trailing s)) P₂ = rw (← e, ← beyond-many t h) c in
-      and_then P (10 ∷ []) (indented n true (trimmed s) ++ beyond (trailing s)) a
-      (and_then P₁ (indented n true (trimmed s)) (beyond (trailing s)) (rw l at b) d)
-
-  pub body-few : (k : ℕ) (P P₁ P₂ : Pen) → t ≤ 1 → P₁ ≡ put1 P 10 → P₂ ≡ puts (indented n true (take k s)) P₁ → k ≡ length s - t → P₂ ≡ puts (block_body n s) P
-  unfolding block_body puts
-  body-few k P P₁ P₂ h a b g =
-      let l : take k s ≡ trimmed s = rw (g, e) (trimmed-take s) in
-      and_then P (10 ∷ []) (indented n true (trimmed s) ++ beyond (trailing s)) a (rw (← e, beyond-few t h, append-nil) (rw l at b))
+pub body_of : (n : ℕ) (s : Bytes) (t k : ℕ) (P P₁ P₂ P₃ : Pen) → t ≡ trailing s → P₁ ≡ put1 P 10 → P₂ ≡ puts (indented n true (take k s)) P₁ → k ≡ length s - t → P₃ ≡ puts (replicate (t - 1) 10) P₂ → P₃ ≡ puts (block_body n s) P
+unfolding block_body puts
+body_of n s t k P P₁ P₂ P₃ e a b g c =
+    let l : take k s ≡ trimmed s = rw (g, e) (trimmed-take s) in
+    and_then P (10 ∷ []) (indented n true (trimmed s) ++ beyond (trailing s)) a
+    (and_then P₁ (indented n true (trimmed s)) (beyond (trailing s)) (rw l at b) (rw (← e, beyond-is t) c))

@@ -1,11 +1,12 @@
-// The lent list of entries: one entry stored, and a run of them from a walk over changed files.
+// The lent list of entries: one entry stored, and a run of them, whose files are written as they come.
 #![tactic(auto)]
 
 ghost use Rattle.std.specs.Prelude.{◌≡◌, ◌<◌, ◌≤◌, length, set};
-ghost use Rattle.changes.specs.Filled.{started, filled};
+ghost use Rattle.changes.specs.Filled.{laid, filled};
 
 use definition::Change;
 use files::Walk;
+use given::Given;
 
 // Stores an entry at a place of a lent list.
 pub fn store_change(list: &mut [Change], at: usize, change: Change)
@@ -15,26 +16,24 @@ pub fn store_change(list: &mut [Change], at: usize, change: Change)
     list[at] = change;
 }
 
-// Stores n entries at the front of a lent list, from a walk, and writes their files; hands the walk after the last of them back.
+// Writes the next n changed files of a walk over the deck one after another, and stores their entries at the front of a lent list; the walk
+// after them. None: one of them has no room.
 pub fn fill_list(
     list: &mut [Change],
-    deck: &[u8],
-    pool: &[u8],
+    given: &Given,
     out: &mut [u8],
     first: Walk,
     n: usize,
-) -> Walk
+) -> Option<Walk>
     requires { n ≤ length list.old }
-    ensures { started result out.new list.new
-        ≡ filled deck.now pool.now 0 n (started first out.old list.old) }
+    ensures { laid result out.new list.new
+        ≡ filled given.now.deck.now given.now.pool.now 0 n first out.old list.old }
 {
-    let mut i = 0;
     let mut w = first;
-    while i < n {
-        let m = files::next_file(deck, pool, out, w);
-        store_change(list, i, m.change);
-        w = m.next;
-        i += 1;
+    for i in 0..n {
+        let made = files::next_file(given, out, w)?;
+        store_change(list, i, made.change);
+        w = made.next;
     }
-    w
+    Some(w)
 }

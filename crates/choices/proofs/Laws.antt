@@ -1,7 +1,7 @@
 -- Laws of the tests, for the functions that make them.
 -- Assumes nothing.
 use mathlib.Core.Path.{◌≡◌, refl, sym, ◌∙◌}
-use Prim.Native.Nat.{ℕ, zero, suc, ◌-◌, ◌*◌, ◌<◌, ◌≤◌}
+use Prim.Native.Nat.{ℕ, zero, suc, ◌+◌, ◌-◌, ◌<◌, ◌≤◌}
 use native.Mathlib.Omega.{arith}
 use mathlib.Core.Bool.{Bool, true, false, ◌||◌}
 use mathlib.Core.List.{[], ◌∷◌}
@@ -11,7 +11,6 @@ use borrow.Author.Tests.{ne_eqb}
 use Rattle.definition.specs.Base.{Bytes, is_nil}
 use Rattle.definition.specs.Walk.{has_comments}
 use Rattle.definition.specs.declared.Cursor.{Cursor}
-use Rattle.deck.specs.Kids.{twice}
 use Rattle.node.specs.Comments.{commented}
 use Rattle.node.specs.Ends.{Ends}
 use Rattle.node.specs.Head.{head_at}
@@ -19,7 +18,14 @@ use Rattle.node.specs.Total.{tree_at}
 use Rattle.node.specs.Loud.{some_of}
 use Rattle.spot.specs.Spot.{spot_of, spot_at, tree-value}
 use Rattle.choices.specs.Choices.{comments-is}
-use Rattle.choices.specs.Siblings.{some_from, Some, SomeItems, SomePairs, some-items, some_pairs}
+use Rattle.choices.specs.Siblings.{some_from, Some}
+
+-- how many trees are left where the loop begins, and one turn later
+pub all-left : (n : ℕ) → (n ≡ 0 → ⊥) → n - 1 + 1 ≡ n
+all-left n h = omega arith
+
+pub less-left : (n k : ℕ) → k < n → n - (k + 1) + 1 ≡ n - k + 1 - 1
+less-left n k h = omega arith
 
 pub nil-length : (t : Bytes) → eqb (length t) 0 ≡ is_nil t
 unfolding is_nil
@@ -66,14 +72,3 @@ module _ (deck : Bytes) (left : ℕ) (here : Cursor) (n : ℕ) (c : Cursor) wher
 pub none : (deck : Bytes) (c : Cursor) (n : ℕ) → n ≡ 0 → Some deck c n false
 unfolding some_from some_of
 none deck c n z = record { told = λ pool. rw z }
-
-twice-is : (n : ℕ) → 2 * n ≡ twice n
-unfolding twice
-twice-is zero = refl
-twice-is (suc n) = let e : 2 * n ≡ twice n = twice-is n in omega arith
-
-pub of-items : (deck : Bytes) (c : Cursor) (n : ℕ) (r : Bool) → Some deck c n r → SomeItems deck c n r
-of-items deck c n r h = record { told = λ pool. h.told pool ∙ some-items deck pool n c }
-
-pub of-pairs : (deck : Bytes) (c : Cursor) (n : ℕ) (r : Bool) → Some deck c (2 * n) r → SomePairs deck c n r
-of-pairs deck c n r h = record { told = λ pool. rw (twice-is n) at (h.told pool) ∙ some_pairs deck pool n c }

@@ -1,28 +1,25 @@
 -- The walk's tests on a node and the columns that it chooses, from what the emitter takes of the node; and that each is the definition's, with
 -- any deck and any pool.
-use Rattle.std.specs.Prelude.{ℕ, zero, suc, ◌+◌, ◌≡◌, Bool, ◌&&◌, ◌||◌, eqb, leb}
+use Rattle.std.specs.Prelude.{ℕ, zero, suc, ◌+◌, ◌≡◌, Bool, ◌&&◌, ◌||◌, leb}
 use Rattle.std.proofs.Math.Path.{refl}
 use Rattle.std.proofs.Common.{sym, arith, ne_eqb}
 use Rattle.std.proofs.Math.Bool.{true, false, not}
-use Rattle.std.proofs.Math.Option.{none, some}
 use Rattle.definition.specs.Base.{Bytes, when◌then◌else◌, is_nil, is_some}
 use Rattle.definition.specs.Settings.{step_of, is_empty_style}
 use Rattle.definition.specs.Tree.{Node}
-use Rattle.definition.specs.Deck.{words, marked, layout_of, source_of}
+use Rattle.definition.specs.Deck.{words, marked, layout_of}
 use Rattle.definition.specs.Walk.{included, is_block_style, is_plain, some_item, some_pair, is_block_form, is_block, is_sequence, is_null, is_empty_scalar, has_comments, needs_explicit, is_explicit, bare, value_column, item_column, on_dash_line}
 use Rattle.definition.specs.Document.{root_column, bare_root}
 use Rattle.definition.specs.declared.Cursor.{Cursor}
 use Rattle.definition.specs.declared.Group.{Group}
 use Rattle.definition.specs.declared.Lines.{Lines}
 use Rattle.definition.specs.declared.Settings.{Settings}
-use Rattle.node.specs.declared.Held.{Held}
+use Rattle.std.specs.Prelude.{None, Some}
+use Rattle.node.specs.Head.{Maybe, there}
 use Rattle.node.specs.declared.Lead.{Lead}
-use Rattle.node.specs.declared.Origin.{Origin}
-use Rattle.node.specs.declared.Remark.{Remark}
 use Rattle.node.specs.Comments.{commented, comments-are}
-use Rattle.definition.specs.Records.{include_at}
 use Rattle.node.specs.Total.{Got, kept_of, brought_of, origin_of, items_from, pairs_from, tree_at}
-use Rattle.parts.specs.Props.{has_held, held-some, has-props-is}
+use Rattle.parts.specs.Props.{held-some, has-props-is}
 use Rattle.spot.specs.declared.Body.{Body}
 use Rattle.spot.specs.declared.Body.TheVariants.{Null, Scalar, Alias, Sequence, Mapping}
 use Rattle.spot.specs.declared.Spot.{Spot}
@@ -121,10 +118,10 @@ needs_in l (Sequence g) = block_group g
 needs_in l (Mapping g) = block_group g
 
 unfoldable pub explicit_in : Bool → Lead → Body → Bool
-explicit_in first l b = needs_in l.lines b || (not first && marked l.lines.marks 8 && (has_held l.tag || has_held l.anchor))
+explicit_in first l b = needs_in l.lines b || (not first && marked l.lines.marks 8 && (there l.tag || there l.anchor))
 
-unfoldable pub included_in : Origin → Bool
-included_in o = on o.at
+abbrev pub included_in : Maybe → Bool
+included_in o = there o
 
 module _ (deck pool : Bytes) where
   pub comments-is : (x : Spot) → has_comments (node_in deck pool x) ≡ commented x.lead
@@ -143,13 +140,14 @@ module _ (deck pool : Bytes) where
   unfolding is_explicit node_in explicit_in
   explicit-is first x = rw (needs-is, has-props-is) (unfold kept_of layout_of in refl)
 
+  origin-some : (o : Maybe) → is_some (origin_of deck pool o) ≡ there o
+  unfolding origin_of is_some
+  origin-some None = refl
+  origin-some (Some c) = refl
+
   pub included-is : (l : Lead) → included (kept_of deck pool l) ≡ included_in l.origin
-  unfolding included kept_of origin_of is_some included_in on
-  included-is l = go (eqb l.origin.at 0)
-    where
-      go : (b : Bool) → is_some (when b then none else some (source_of pool (include_at deck l.origin.at))) ≡ not b
-      go true = refl
-      go false = refl
+  unfolding included kept_of
+  included-is l = origin-some l.origin
 
 -- ---- what is written of a null, and the columns
 
@@ -157,29 +155,29 @@ module _ (deck pool : Bytes) where
 unfoldable pub edited_in : Lines → Body → Bool
 edited_in l b = marked l.marks 8 && none_in b
 
-unfoldable pub bare_in : Settings → Bytes → Lines → Remark → Body → Bool
-bare_in s pool l m b = empty_in pool b && not (on m.at) && (not (edited_in l b) || is_empty_style s.null_style)
+unfoldable pub bare_in : Settings → Bytes → Lines → Maybe → Body → Bool
+bare_in s pool l m b = empty_in pool b && not (there m) && (not (edited_in l b) || is_empty_style s.null_style)
 
 -- a sequence stands at its key's column
-unfoldable pub flush_in : Settings → Lines → Held → ℕ → Bool
-flush_in s l tag i = when s.indent_sequences then s.indentless && not (has_held tag) else leb l.column i
+unfoldable pub flush_in : Settings → Lines → Maybe → ℕ → Bool
+flush_in s l tag i = when s.indent_sequences then s.indentless && not (there tag) else leb l.column i
 
-unfoldable pub value_column_in : Settings → Lines → Held → ℕ → Body → ℕ
+unfoldable pub value_column_in : Settings → Lines → Maybe → ℕ → Body → ℕ
 value_column_in s l tag i b = when sequence_in b && flush_in s l tag i then i else i + step_of s
 
-unfoldable pub item_column_in : Settings → Held → Held → ℕ → Body → ℕ
-item_column_in s tag anchor i b = when (has_held tag || has_held anchor) && not (sequence_in b) then i + step_of s else i + 2
+unfoldable pub item_column_in : Settings → Maybe → Maybe → ℕ → Body → ℕ
+item_column_in s tag anchor i b = when (there tag || there anchor) && not (sequence_in b) then i + step_of s else i + 2
 
-unfoldable pub on_dash_line_in : Lines → Held → Held → Remark → Body → Bool
+unfoldable pub on_dash_line_in : Lines → Maybe → Maybe → Maybe → Body → Bool
 on_dash_line_in l tag anchor m b =
-    not (has_held tag || has_held anchor) && (when sequence_in b then marked l.marks 4 else not (on m.at || marked l.marks 2))
+    not (there tag || there anchor) && (when sequence_in b then marked l.marks 4 else not (there m || marked l.marks 2))
 
-unfoldable pub root_column_in : Settings → Lines → Held → Body → ℕ
-root_column_in s l tag b = when marked l.marks 8 && has_held tag && not (sequence_in b && s.indentless) then step_of s else 0
+unfoldable pub root_column_in : Settings → Lines → Maybe → Body → ℕ
+root_column_in s l tag b = when marked l.marks 8 && there tag && not (sequence_in b && s.indentless) then step_of s else 0
 
-unfoldable pub bare_root_in : Settings → Lines → Remark → Held → Held → Body → Bool
+unfoldable pub bare_root_in : Settings → Lines → Maybe → Maybe → Maybe → Body → Bool
 bare_root_in s l m tag anchor b =
-    none_in b && marked l.marks 8 && has_held tag && not (on m.at) && not (has_held anchor) && is_empty_style s.null_style
+    none_in b && marked l.marks 8 && there tag && not (there m) && not (there anchor) && is_empty_style s.null_style
 
 module _ (s : Settings) (deck pool : Bytes) (l : Lead) where
   pub bare-is : (b : Body) (c : Cursor) → bare s (kept_of deck pool l) (kind_of deck pool b c) ≡ bare_in s pool l.lines l.remark b
@@ -188,7 +186,7 @@ module _ (s : Settings) (deck pool : Bytes) (l : Lead) where
 
   pub value-column-is : (i : ℕ) (b : Body) (c : Cursor) → value_column s (kept_of deck pool l) (brought_of deck pool l) i (kind_of deck pool b c) ≡ value_column_in s l.lines l.tag i b
   unfolding value_column kept_of brought_of layout_of value_column_in flush_in
-  value-column-is i b c = rw (sequence-is deck pool b c, held-some) (go (sequence_in b) s.indent_sequences (s.indentless && not (has_held l.tag)) (leb l.lines.column i))
+  value-column-is i b c = rw (sequence-is deck pool b c, held-some) (go (sequence_in b) s.indent_sequences (s.indentless && not (there l.tag)) (leb l.lines.column i))
     where
       go :
           (q d f g : Bool) →

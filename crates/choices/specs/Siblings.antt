@@ -11,15 +11,9 @@ use Rattle.node.specs.Loud.{some_of}
 unfoldable pub some_from : Bytes → Bytes → ℕ → Cursor → Bool
 some_from deck pool n c = some_of has_comments (tree_at deck pool) n c
 
--- with any pool: some of n trees, of n items, of n pairs
+-- with any pool: some of n trees
 pub record Some (deck : Bytes) (c : Cursor) (n : ℕ) (r : Bool) : Type 0 where
   pub told : (pool : Bytes) → r ≡ some_from deck pool n c
-
-pub record SomeItems (deck : Bytes) (c : Cursor) (n : ℕ) (r : Bool) : Type 0 where
-  pub told : (pool : Bytes) → r ≡ any_comments (items_from (tree_at deck pool) n c).value
-
-pub record SomePairs (deck : Bytes) (c : Cursor) (n : ℕ) (r : Bool) : Type 0 where
-  pub told : (pool : Bytes) → r ≡ any_comments_in (pairs_from (tree_at deck pool) n c).value
 
 pub some-items : (deck pool : Bytes) (n : ℕ) (c : Cursor) → some_from deck pool n c ≡ any_comments (items_from (tree_at deck pool) n c).value
 unfolding some_from some_of any_comments items_from

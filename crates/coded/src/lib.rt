@@ -14,28 +14,14 @@ pub fn long(data: &[u8], at: usize) -> usize
 
 // ---- FNV-1a of 64 bits
 
-fn wide(b: u8) -> u64 {
-    b as u64
-}
+// The sum of no bytes; and the prime, 2^40 + 435.
+const BASIS: u64 = 0xcbf2_9ce4_8422_2325;
 
-// The product with the prime, 2^40 + 435, cut to 64 bits; no step of it wraps.
-fn turn(hash: u64, b: u8) -> u64 {
-    let mixed: u64 = hash ^ wide(b);
-    let high: u64 = mixed / 4294967296 % 4294967296;
-    let low: u64 = mixed % 4294967296;
-    let down: u64 = low * 435;
-    let up: u64 = (high * 435 + down / 4294967296 + low % 16777216 * 256) % 4294967296;
-    up * 4294967296 + down % 4294967296
-}
+const PRIME: u64 = 0x100_0000_01b3;
 
 pub fn hash(out: &[u8]) -> u64 {
-    let mut h: u64 = 0xcbf29ce484222325;
-    let mut i = 0;
-    while i < out.len() {
-        h = turn(h, out[i]);
-        i += 1;
-    }
-    h
+    out.iter()
+        .fold(BASIS, |h, b| (h ^ u64::from(*b)).wrapping_mul(PRIME))
 }
 
 // ---- runs
@@ -45,26 +31,18 @@ fn copy(piece: &[u8], out: &mut [u8], to: usize) -> usize
     requires { to ≤ length out.old }
     ensures { result ≤ length out.new }
 {
-    let mut i = 0;
-    while i < piece.len() {
-        if to + i == out.len() {
-            return out.len();
-        }
-        out[to + i] = piece[i];
-        i += 1;
-    }
-    to + i
+    let n = piece.len().min(out.len() - to);
+    out[to..to + n].copy_from_slice(&piece[..n]);
+    to + n
 }
 
 fn repeat(piece: &[u8], times: usize, out: &mut [u8], to: usize) -> usize
     requires { to ≤ length out.old }
     ensures { result ≤ length out.new }
 {
-    let mut left = times;
     let mut end = to;
-    while left > 0 {
+    for _ in 0..times {
         end = copy(piece, out, end);
-        left -= 1;
     }
     end
 }
@@ -73,22 +51,22 @@ fn repeat(piece: &[u8], times: usize, out: &mut [u8], to: usize) -> usize
 pub fn expand(coded: &[u8], out: &mut [u8]) -> usize
     ensures { result ≤ length out.new }
 {
-    let mut at = 0;
+    let mut rest = coded;
     let mut to = 0;
-    while at + 4 <= coded.len() {
-        let from = at + 4;
-        let end = from + deck::word(coded, at);
-        if end > coded.len() {
+    while let Some((head, after)) = rest.split_at_checked(4) {
+        let len = deck::word(head, 0);
+        let Some(piece) = after.get(..len) else {
             return to;
-        }
-        to = repeat(&coded[from..end], deck::word(coded, at + 2), out, to);
-        at = end;
+        };
+        to = repeat(piece, deck::word(head, 2), out, to);
+        rest = &after[len..];
     }
     to
 }
 
 // ---- marks and room
 
+// A number, 0 or 1: so the exported calls take a yes or no.
 pub fn is_on(marks: usize, bit: usize) -> usize
     requires { 0 < bit }
 {
@@ -97,9 +75,5 @@ pub fn is_on(marks: usize, bit: usize) -> usize
 
 // A byte that is nowhere else, all over the output.
 pub fn fill(out: &mut [u8]) {
-    let mut i = 0;
-    while i < out.len() {
-        out[i] = 0xaa;
-        i += 1;
-    }
+    out.fill(0xaa);
 }

@@ -15,6 +15,13 @@ use Rattle.comments.specs.declared.Entries.{Entries}
 use Rattle.comments.specs.declared.Entries.TheVariants.{Heads, Over, Under, Foots, Directives}
 use Rattle.comments.specs.Runs.{stride, entry, entries, run_of, repeated, repeated-drawn, Short}
 
+-- how many are left at the first turn, and one turn later
+pub first-left : (n : ℕ) → n - 0 ≡ n
+first-left n = omega arith
+
+pub next-left : (n k : ℕ) → n - (k + 1) ≡ n - k - 1
+next-left n k = omega arith
+
 -- two pens that end alike: under any settings, a from P and b from Q
 pub record Level (a : Script) (P : Pen) (b : Script) (Q : Pen) : Type 0 where
   pub same : (s : Settings) → ink s a P ≡ ink s b Q

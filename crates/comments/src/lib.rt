@@ -11,6 +11,7 @@ ghost use Rattle.pen.specs.Draws.{Draws};
 ghost use Rattle.comments.specs.Runs.{stride, percent, entry, entries, run_of, repeated, Short};
 
 use definition::{Cursor, Side};
+use given::Given;
 use node::{Lead, Run};
 use pen::Writer;
 
@@ -44,139 +45,117 @@ fn percent_line(w: Writer, out: &mut [u8], t: &[u8]) -> Writer
 }
 
 // The text of the record at a cursor.
-fn text_of<'a>(deck: &[u8], pool: &'a [u8], c: Cursor) -> &'a [u8]
+fn text_of<'a>(given: &Given<'a>, c: Cursor) -> &'a [u8]
     requires { c.at < 2 ^ 63 }
-    ensures { result.now ≡ text_of deck.now pool.now c }
+    ensures { result.now ≡ text_of given.now.deck.now given.now.pool.now c }
 {
     let body = Cursor { at: c.at + 1 };
-    deck::words_of(pool, deck::text_only(deck, body))
+    deck::words_of(given.pool, deck::text_only(given.deck, body))
 }
 
 // The head comment at a cursor stands below its node's introducer.
+#[tactic(auto, unfolding(definition::specs::Deck::is_below))]
 fn is_below(deck: &[u8], c: Cursor) -> bool
     requires { c.at < 2 ^ 63 }
     ensures { result ≡ is_below (heading_at deck.now (c.at + 1)).side }
 {
     let body = Cursor { at: c.at + 1 };
-    let heading = deck::heading_at(deck, body);
-    let side = heading.side;
-    match side {
+    match deck::heading_at(deck, body).side {
         Side::Above => false,
         Side::Below => true,
     }
 }
 
 // The comment line of the record at a cursor.
-fn comment_at(
-    w: Writer,
-    deck: &[u8],
-    pool: &[u8],
-    out: &mut [u8],
-    indent: usize,
-    c: Cursor,
-) -> Writer
+fn comment_at(w: Writer, given: &Given, out: &mut [u8], indent: usize, c: Cursor) -> Writer
     requires { (length out.old < 2 ^ 21) × (c.at < 2 ^ 63) }
-    ensures { Draws (comment_line indent (text_of deck.now pool.now c)) (pen w out.old) (pen result out.new) }
+    ensures { Draws (comment_line indent (text_of given.now.deck.now given.now.pool.now c)) (pen w out.old) (pen result out.new) }
 {
-    let t = text_of(deck, pool, c);
+    let t = text_of(given, c);
     comment_line(w, out, indent, t)
 }
 
-fn above_at(w: Writer, deck: &[u8], pool: &[u8], out: &mut [u8], indent: usize, c: Cursor) -> Writer
+fn above_at(w: Writer, given: &Given, out: &mut [u8], indent: usize, c: Cursor) -> Writer
     requires { (length out.old < 2 ^ 21) × (c.at < 2 ^ 63) }
-    ensures { Draws (entry deck.now pool.now Entries.Over indent c) (pen w out.old) (pen result out.new) }
+    ensures { Draws (entry given.now.deck.now given.now.pool.now Entries.Over indent c) (pen w out.old) (pen result out.new) }
 {
-    if is_below(deck, c) {
+    if is_below(given.deck, c) {
         return w;
     }
-    comment_at(w, deck, pool, out, indent, c)
+    comment_at(w, given, out, indent, c)
 }
 
-fn below_at(w: Writer, deck: &[u8], pool: &[u8], out: &mut [u8], indent: usize, c: Cursor) -> Writer
+fn below_at(w: Writer, given: &Given, out: &mut [u8], indent: usize, c: Cursor) -> Writer
     requires { (length out.old < 2 ^ 21) × (c.at < 2 ^ 63) }
-    ensures { Draws (entry deck.now pool.now Entries.Under indent c) (pen w out.old) (pen result out.new) }
+    ensures { Draws (entry given.now.deck.now given.now.pool.now Entries.Under indent c) (pen w out.old) (pen result out.new) }
 {
-    if is_below(deck, c) {
-        return comment_at(w, deck, pool, out, indent, c);
+    if is_below(given.deck, c) {
+        return comment_at(w, given, out, indent, c);
     }
     w
 }
 
-fn directive_at(w: Writer, deck: &[u8], pool: &[u8], out: &mut [u8], c: Cursor) -> Writer
+fn directive_at(w: Writer, given: &Given, out: &mut [u8], c: Cursor) -> Writer
     requires { (length out.old < 2 ^ 21) × (c.at < 2 ^ 63) }
-    ensures { Draws (percent (text_of deck.now pool.now c)) (pen w out.old) (pen result out.new) }
+    ensures { Draws (percent (text_of given.now.deck.now given.now.pool.now c)) (pen w out.old) (pen result out.new) }
 {
-    let t = text_of(deck, pool, c);
+    let t = text_of(given, c);
     percent_line(w, out, t)
 }
 
 // What is written of the record at a cursor.
+#[tactic(auto, unfolding(crate::specs::Runs::entry))]
 fn put_entry(
     w: Writer,
-    deck: &[u8],
-    pool: &[u8],
+    given: &Given,
     out: &mut [u8],
     e: Entries,
     indent: usize,
     c: Cursor,
 ) -> Writer
     requires { (length out.old < 2 ^ 21) × (c.at < 2 ^ 63) }
-    ensures { Draws (entry deck.now pool.now e indent c) (pen w out.old) (pen result out.new) }
+    ensures { Draws (entry given.now.deck.now given.now.pool.now e indent c) (pen w out.old) (pen result out.new) }
 {
     match e {
-        Entries::Heads => comment_at(w, deck, pool, out, indent, c),
-        Entries::Over => above_at(w, deck, pool, out, indent, c),
-        Entries::Under => below_at(w, deck, pool, out, indent, c),
-        Entries::Foots => comment_at(w, deck, pool, out, indent, c),
-        Entries::Directives => directive_at(w, deck, pool, out, c),
+        Entries::Heads | Entries::Foots => comment_at(w, given, out, indent, c),
+        Entries::Over => above_at(w, given, out, indent, c),
+        Entries::Under => below_at(w, given, out, indent, c),
+        Entries::Directives => directive_at(w, given, out, c),
     }
 }
 
+#[tactic(auto, unfolding(crate::specs::Runs::stride))]
 fn stride_of(e: Entries) -> usize
     ensures { (result ≡ stride e) × (result ≤ 6) }
 {
     match e {
-        Entries::Heads => 6,
-        Entries::Over => 6,
-        Entries::Under => 6,
-        Entries::Foots => 5,
-        Entries::Directives => 5,
+        Entries::Heads | Entries::Over | Entries::Under => 6,
+        Entries::Foots | Entries::Directives => 5,
     }
 }
 
 // Records of one kind, one after another.
-fn put_run(
-    w: Writer,
-    deck: &[u8],
-    pool: &[u8],
-    out: &mut [u8],
-    e: Entries,
-    indent: usize,
-    run: Run,
-) -> Writer
+fn put_run(w: Writer, given: &Given, out: &mut [u8], e: Entries, indent: usize, run: Run) -> Writer
     requires { (length out.old < 2 ^ 21) × (run.first.at < 2 ^ 61) × (run.count < 2 ^ 58) }
-    ensures { Draws (entries deck.now pool.now e indent run.count run.first) (pen w out.old) (pen result out.new) }
+    ensures { Draws (entries given.now.deck.now given.now.pool.now e indent run.count run.first) (pen w out.old) (pen result out.new) }
 {
     let step = stride_of(e);
     let mut u = w;
     let mut here = run.first;
-    let mut left = run.count;
-    while left > 0 {
-        u = put_entry(u, deck, pool, out, e, indent, here);
+    for _ in 0..run.count {
+        u = put_entry(u, given, out, e, indent, here);
         here = Cursor { at: here.at + step };
-        left -= 1;
     }
     u
 }
 
 // Where the records of a kind stand.
-fn run_of(lead: Lead, e: Entries) -> Run
-    ensures { result ≡ run_of e lead }
+#[tactic(auto, unfolding(crate::specs::Runs::run_of))]
+fn run_of(lead: &Lead, e: Entries) -> Run
+    ensures { result ≡ run_of e lead.now }
 {
     match e {
-        Entries::Heads => lead.heads,
-        Entries::Over => lead.heads,
-        Entries::Under => lead.heads,
+        Entries::Heads | Entries::Over | Entries::Under => lead.heads,
         Entries::Foots => lead.foots,
         Entries::Directives => lead.directives,
     }
@@ -186,75 +165,52 @@ fn run_of(lead: Lead, e: Entries) -> Run
 // handed on.
 pub fn put_repeated(
     w: Writer,
-    deck: &[u8],
-    pool: &[u8],
+    given: &Given,
     out: &mut [u8],
-    lead: Lead,
+    lead: &Lead,
     e: Entries,
     indent: usize,
 ) -> Writer
-    requires { (length out.old < 2 ^ 21) × Short lead }
-    ensures { Draws (repeated e (kept_of deck.now pool.now lead) indent) (pen w out.old) (pen result out.new) }
+    requires { (length out.old < 2 ^ 21) × Short lead.now }
+    ensures { Draws (repeated e (kept_of given.now.deck.now given.now.pool.now lead.now) indent) (pen w out.old) (pen result out.new) }
 {
     let run = run_of(lead, e);
     if run.count == 0 {
         return w;
     }
-    put_run(w, deck, pool, out, e, indent, run)
-}
-
-// `emit_head`: the same of head comments alone.
-pub fn put_heads(
-    w: Writer,
-    deck: &[u8],
-    pool: &[u8],
-    out: &mut [u8],
-    lead: Lead,
-    indent: usize,
-) -> Writer
-    requires { (length out.old < 2 ^ 21) × Short lead }
-    ensures { Draws (heads (kept_of deck.now pool.now lead) indent) (pen w out.old) (pen result out.new) }
-{
-    if lead.heads.count == 0 {
-        return w;
-    }
-    put_run(w, deck, pool, out, Entries::Heads, indent, lead.heads)
+    put_run(w, given, out, e, indent, run)
 }
 
 // `emit_head_above_dash`
 pub fn put_above_dash(
     w: Writer,
-    deck: &[u8],
-    pool: &[u8],
+    given: &Given,
     out: &mut [u8],
-    lead: Lead,
+    lead: &Lead,
     indent: usize,
 ) -> Writer
-    requires { (length out.old < 2 ^ 21) × Short lead }
-    ensures { Draws (above_dash (kept_of deck.now pool.now lead) indent) (pen w out.old) (pen result out.new) }
+    requires { (length out.old < 2 ^ 21) × Short lead.now }
+    ensures { Draws (above_dash (kept_of given.now.deck.now given.now.pool.now lead.now) indent) (pen w out.old) (pen result out.new) }
 {
-    let lines = lead.lines;
-    if deck::is_marked(lines.marks, 2) {
-        return put_repeated(w, deck, pool, out, lead, Entries::Over, indent);
+    if deck::is_marked(lead.lines.marks, 2) {
+        return put_repeated(w, given, out, lead, Entries::Over, indent);
     }
-    put_heads(w, deck, pool, out, lead, indent)
+    put_repeated(w, given, out, lead, Entries::Heads, indent)
 }
 
 // `emit_head_below_dash`
 pub fn put_below_dash(
     w: Writer,
-    deck: &[u8],
-    pool: &[u8],
+    given: &Given,
     out: &mut [u8],
-    lead: Lead,
+    lead: &Lead,
     indent: usize,
 ) -> Writer
-    requires { (length out.old < 2 ^ 21) × Short lead }
-    ensures { Draws (below_dash (kept_of deck.now pool.now lead) indent) (pen w out.old) (pen result out.new) }
+    requires { (length out.old < 2 ^ 21) × Short lead.now }
+    ensures { Draws (below_dash (kept_of given.now.deck.now given.now.pool.now lead.now) indent) (pen w out.old) (pen result out.new) }
 {
-    let lines = lead.lines;
-    if deck::is_marked(lines.marks, 2) {
-        return put_repeated(w, deck, pool, out, lead, Entries::Under, indent);
+    if deck::is_marked(lead.lines.marks, 2) {
+        return put_repeated(w, given, out, lead, Entries::Under, indent);
     }
     w
 }

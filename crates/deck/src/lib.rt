@@ -2,13 +2,13 @@
 #![tactic(auto)]
 
 ghost use Rattle.std.specs.Prelude.{◌≡◌, ◌+◌, ◌<◌, ◌≤◌, ◌^◌, min, length, take, drop};
-ghost use Rattle.definition.specs.Records.{byte_at, word_at, text_at, style_of, form_of, side_of, file_at, include_at, heading_at, trailer_at, lines_at, words_at, group_at, record_of, kind_at, record_at, size_of};
+ghost use Rattle.definition.specs.Records.{byte_at, word_at, text_at, file_at, include_at, heading_at, trailer_at, lines_at, words_at, group_at, record_of, kind_at, record_at, size_of};
 ghost use Rattle.definition.specs.Deck.{is_node, words, marked};
 ghost use Rattle.deck.specs.Next.{next_of, Referred, Within};
 ghost use Rattle.deck.specs.Kids.{kids_of};
 
 use definition::{
-    Cursor, File, Form, Group, Heading, Include, Lines, Record, Side, Style, Text, Trailer, Words,
+    Cursor, Form, Group, Heading, Include, Lines, Record, Side, Style, Text, Trailer, Words,
 };
 
 // A record, and the cursor after it.
@@ -25,153 +25,125 @@ pub struct Reference {
     pub next: Cursor,
 }
 
-fn wide(b: u8) -> usize
-    ensures { (result ≡ b) × (result < 256) }
-{
-    b as usize
-}
-
+#[tactic(auto, unfolding(definition::specs::Records::byte_at))]
 pub fn byte(deck: &[u8], at: usize) -> usize
     ensures { (result ≡ byte_at deck.now at) × (result < 256) }
 {
-    if at < deck.len() { wide(deck[at]) } else { 0 }
+    deck.get(at).map_or(0, |b| usize::from(*b))
 }
 
 // The number of two bytes, low byte first. One test does for both, but at the deck's end.
+#[tactic(auto, unfolding(definition::specs::Records::byte_at, definition::specs::Records::word_at))]
 pub fn word(deck: &[u8], at: usize) -> usize
     requires { at < 2 ^ 63 + 32 }
     ensures { (result ≡ word_at deck.now at) × (result < 65536) }
 {
     let high = at + 1;
     if high < deck.len() {
-        return wide(deck[at]) + 256 * wide(deck[high]);
+        usize::from(deck[at]) + 256 * usize::from(deck[high])
+    } else {
+        byte(deck, at)
     }
-    byte(deck, at)
 }
 
 // The reference at a cursor. No other function reads one.
+#[tactic(auto, unfolding(definition::specs::Records::text_at))]
 fn text_at(deck: &[u8], c: Cursor) -> Reference
     requires { c.at < 2 ^ 63 + 16 }
     ensures { Referred deck.now c result }
 {
-    let at = c.at;
-    let text = Text {
-        from: word(deck, at),
-        len: word(deck, at + 2),
-    };
-    let next = Cursor { at: at + 4 };
-    Reference { text, next }
-}
-
-fn style_of(b: usize) -> Style
-    ensures { result ≡ style_of b }
-{
-    match b {
-        0 => Style::Plain,
-        1 => Style::Single,
-        2 => Style::Double,
-        3 => Style::Literal,
-        _ => Style::Folded,
-    }
-}
-
-fn form_of(b: usize) -> Form
-    ensures { result ≡ form_of b }
-{
-    match b {
-        0 => Form::Block,
-        _ => Form::Flow,
-    }
-}
-
-fn side_of(b: usize) -> Side
-    ensures { result ≡ side_of b }
-{
-    match b {
-        0 => Side::Above,
-        _ => Side::Below,
+    let from = word(deck, c.at);
+    let len = word(deck, c.at + 2);
+    Reference {
+        text: Text { from, len },
+        next: Cursor { at: c.at + 4 },
     }
 }
 
 // The file id of an include: ignored where the byte before it says that it is absent.
-fn file_at(deck: &[u8], c: Cursor) -> File
+#[tactic(auto, unfolding(definition::specs::Records::file_at))]
+fn file_at(deck: &[u8], c: Cursor) -> Option<usize>
     requires { c.at ≤ length deck.now + 12 }
     ensures { result ≡ file_at deck.now c.at }
 {
-    let at = c.at;
-    let b = byte(deck, at);
-    match b {
-        0 => File::Absent,
-        _ => File::Id(word(deck, at + 1) + 65536 * word(deck, at + 3)),
+    match byte(deck, c.at) {
+        0 => None,
+        _ => Some(word(deck, c.at + 1) + 65536 * word(deck, c.at + 3)),
     }
 }
 
+#[tactic(auto, unfolding(definition::specs::Records::include_at))]
 fn include_at(deck: &[u8], c: Cursor) -> Include
     requires { c.at ≤ length deck.now + 4 }
     ensures { result ≡ include_at deck.now c.at }
 {
-    let first = text_at(deck, c);
-    let tag = first.text;
-    let second = text_at(deck, first.next);
-    let target = second.text;
-    let file = file_at(deck, second.next);
-    Include { tag, target, file }
+    let tag = text_at(deck, c);
+    let target = text_at(deck, tag.next);
+    Include {
+        tag: tag.text,
+        target: target.text,
+        file: file_at(deck, target.next),
+    }
 }
 
+#[tactic(auto, unfolding(definition::specs::Records::heading_at))]
 pub fn heading_at(deck: &[u8], c: Cursor) -> Heading
     requires { c.at < 2 ^ 63 + 8 }
     ensures { result ≡ heading_at deck.now c.at }
 {
-    let first = text_at(deck, c);
-    let text = first.text;
-    let after = first.next;
-    let side = side_of(byte(deck, after.at));
-    Heading { text, side }
+    let Reference { text, next } = text_at(deck, c);
+    Heading {
+        text,
+        side: Side::from(byte(deck, next.at)),
+    }
 }
 
+#[tactic(auto, unfolding(definition::specs::Records::trailer_at))]
 fn trailer_at(deck: &[u8], c: Cursor) -> Trailer
     requires { c.at ≤ length deck.now + 4 }
     ensures { result ≡ trailer_at deck.now c.at }
 {
-    let first = text_at(deck, c);
-    let text = first.text;
-    let after = first.next;
-    let spaces = byte(deck, after.at);
-    Trailer { text, spaces }
+    let Reference { text, next } = text_at(deck, c);
+    Trailer {
+        text,
+        spaces: byte(deck, next.at),
+    }
 }
 
+#[tactic(auto, unfolding(definition::specs::Records::lines_at))]
 pub fn lines_at(deck: &[u8], c: Cursor) -> Lines
     requires { c.at ≤ length deck.now + 4 }
     ensures { result ≡ lines_at deck.now c.at }
 {
-    let at = c.at;
     Lines {
-        blank: byte(deck, at),
-        pad: byte(deck, at + 1),
-        column: word(deck, at + 2),
-        marks: byte(deck, at + 4),
+        blank: byte(deck, c.at),
+        pad: byte(deck, c.at + 1),
+        column: word(deck, c.at + 2),
+        marks: byte(deck, c.at + 4),
     }
 }
 
+#[tactic(auto, unfolding(definition::specs::Records::words_at))]
 pub fn words_at(deck: &[u8], c: Cursor) -> Words
     requires { c.at ≤ length deck.now + 4 }
     ensures { result ≡ words_at deck.now c.at }
 {
-    let first = text_at(deck, c);
-    let text = first.text;
-    let after = first.next;
-    let style = style_of(byte(deck, after.at));
-    Words { text, style }
+    let Reference { text, next } = text_at(deck, c);
+    Words {
+        text,
+        style: Style::from(byte(deck, next.at)),
+    }
 }
 
+#[tactic(auto, unfolding(definition::specs::Records::group_at))]
 pub fn group_at(deck: &[u8], c: Cursor) -> Group
     requires { c.at ≤ length deck.now + 4 }
     ensures { result ≡ group_at deck.now c.at }
 {
-    let at = c.at;
-    let form = form_of(byte(deck, at));
-    let count = word(deck, at + 1);
-    Group { form, count }
+    Group {
+        form: Form::from(byte(deck, c.at)),
+        count: word(deck, c.at + 1),
+    }
 }
 
 // The reference alone.
@@ -179,18 +151,16 @@ pub fn text_only(deck: &[u8], c: Cursor) -> Text
     requires { c.at < 2 ^ 63 + 16 }
     ensures { result ≡ text_at deck.now c.at }
 {
-    let r = text_at(deck, c);
-    r.text
+    text_at(deck, c).text
 }
 
 // The cursor at a place, or at the deck's end if the place is past it: the same is read there.
 fn within(deck: &[u8], at: usize) -> Cursor
     ensures { Within deck.now at result }
 {
-    if at < deck.len() {
-        return Cursor { at };
+    Cursor {
+        at: at.min(deck.len()),
     }
-    Cursor { at: deck.len() }
 }
 
 // What stands at any place, where a body of that sort begins there.
@@ -213,6 +183,7 @@ pub fn include_in(deck: &[u8], at: usize) -> Include
 }
 
 // The record of a kind whose body starts at a cursor.
+#[tactic(auto, unfolding(definition::specs::Records::record_of))]
 fn record_of(kind: usize, deck: &[u8], c: Cursor) -> Record
     requires { c.at ≤ length deck.now + 4 }
     ensures { result ≡ record_of kind deck.now c.at }
@@ -236,29 +207,22 @@ fn record_of(kind: usize, deck: &[u8], c: Cursor) -> Record
 }
 
 // The bytes of a record, its kind byte too: none of an unknown kind.
+#[tactic(auto, unfolding(definition::specs::Records::size_of))]
 pub fn size_of(kind: usize) -> usize
     ensures { (result ≡ size_of kind) × (result ≤ 14) }
 {
     match kind {
-        0x01 => 5,
-        0x02 => 5,
+        0x01 | 0x02 | 0x06..=0x08 | 0x22 => 5,
+        0x04 | 0x05 | 0x09 | 0x21 => 6,
         0x03 => 14,
-        0x04 => 6,
-        0x05 => 6,
-        0x06 => 5,
-        0x07 => 5,
-        0x08 => 5,
-        0x09 => 6,
         0x20 => 1,
-        0x21 => 6,
-        0x22 => 5,
-        0x23 => 4,
-        0x24 => 4,
+        0x23 | 0x24 => 4,
         _ => 0,
     }
 }
 
 // The kind of the record at a cursor.
+#[tactic(auto, unfolding(definition::specs::Records::kind_at))]
 pub fn kind(deck: &[u8], c: Cursor) -> usize
     ensures { (result ≡ kind_at deck.now c) × (result < 256) }
 {
@@ -268,18 +232,16 @@ pub fn kind(deck: &[u8], c: Cursor) -> usize
 // The cursor so many bytes after another, and never past the end.
 fn further(deck: &[u8], c: Cursor, size: usize) -> Cursor
     requires { (c.at ≤ length deck.now) × (size ≤ 14) }
-    ensures { result.at ≡ min (c.at + size) (length deck.now) }
+    ensures { result ≡ record { at = min (c.at + size) (length deck.now) } }
 {
-    let end = c.at + size;
-    if end < deck.len() {
-        Cursor { at: end }
-    } else {
-        Cursor { at: deck.len() }
+    Cursor {
+        at: (c.at + size).min(deck.len()),
     }
 }
 
 // The cursor after the record at a cursor, and never past the end. Before most nodes stands a record 09: that kind is asked for by itself, so that
 // the machine goes on by a guess, and does not wait until a size was looked up.
+#[tactic(auto, unfolding(crate::specs::Next::next_of, definition::specs::Records::past), using(crate::proofs::Laws::size_of_layout))]
 pub fn next(deck: &[u8], c: Cursor) -> Cursor
     requires { c.at ≤ length deck.now }
     ensures { (result ≡ next_of deck.now c) × (result.at ≤ length deck.now) }
@@ -292,27 +254,28 @@ pub fn next(deck: &[u8], c: Cursor) -> Cursor
 }
 
 // The record at a cursor, and the cursor after it.
+#[tactic(auto, unfolding(definition::specs::Records::record_at))]
 pub fn read(deck: &[u8], c: Cursor) -> Entry
     requires { c.at ≤ length deck.now }
     ensures { (result.item ≡ record_at deck.now c) × (result.next ≡ next_of deck.now c) }
 {
     let body = Cursor { at: c.at + 1 };
-    let item = record_of(kind(deck, c), deck, body);
-    let next = next(deck, c);
-    Entry { item, next }
-}
-
-// Whether the record at a cursor is a node's own.
-pub fn is_node(deck: &[u8], c: Cursor) -> bool
-    ensures { result ≡ is_node (record_at deck.now c) }
-{
-    match kind(deck, c) {
-        0x01..=0x09 => false,
-        _ => true,
+    Entry {
+        item: record_of(kind(deck, c), deck, body),
+        next: next(deck, c),
     }
 }
 
+// Whether the record at a cursor is a node's own.
+#[tactic(auto, using(crate::proofs::Laws::leads, crate::proofs::Laws::owns_low, crate::proofs::Laws::owns_high))]
+pub fn is_node(deck: &[u8], c: Cursor) -> bool
+    ensures { result ≡ is_node (record_at deck.now c) }
+{
+    !matches!(kind(deck, c), 0x01..=0x09)
+}
+
 // How many nodes follow the record at a cursor as its children.
+#[tactic(auto, using(crate::proofs::Laws::kids_sequence, crate::proofs::Laws::kids_mapping, crate::proofs::Laws::kids_other))]
 pub fn kids(deck: &[u8], c: Cursor) -> usize
     requires { c.at ≤ length deck.now }
     ensures { (result ≡ kids_of (record_at deck.now c)) × (result < 131072) }
@@ -324,27 +287,17 @@ pub fn kids(deck: &[u8], c: Cursor) -> usize
     }
 }
 
-// The bytes from a place on, `len` of them or as many as there are.
-fn part(s: &[u8], start: usize, len: usize) -> &[u8]
-    ensures { result.now ≡ take len (drop start s.now) }
-{
-    if s.len() < start {
-        return &s[..0];
-    }
-    if len <= s.len() - start {
-        return &s[start..start + len];
-    }
-    &s[start..]
-}
-
-// The bytes that a reference gives.
+// The bytes that a reference gives: fewer than its length, where the pool ends before.
+#[tactic(auto, unfolding(definition::specs::Deck::words))]
 pub fn words_of(pool: &[u8], t: Text) -> &[u8]
     ensures { result.now ≡ words pool.now t }
 {
-    part(pool, t.from, t.len)
+    let rest = &pool[t.from.min(pool.len())..];
+    &rest[..t.len.min(rest.len())]
 }
 
 // A mark of the layout record.
+#[tactic(auto, unfolding(definition::specs::Deck::marked))]
 pub fn is_marked(marks: usize, m: usize) -> bool
     requires { 0 < m }
     ensures { result ≡ marked marks m }

@@ -11,8 +11,8 @@ use Rattle.definition.specs.declared.Cursor.{Cursor}
 use Rattle.definition.specs.declared.Text.{Text}
 use Rattle.definition.specs.declared.Side.{Side}
 use Rattle.definition.specs.declared.Side.TheVariants.{Above, Below}
-use Rattle.definition.specs.declared.File.{File}
-use Rattle.definition.specs.declared.File.TheVariants.{Absent, Id}
+use Rattle.definition.specs.Records.{File}
+use Rattle.std.specs.Prelude.{None, Some}
 use Rattle.definition.specs.declared.Include.{Include}
 use Rattle.definition.specs.declared.Heading.{Heading}
 use Rattle.definition.specs.declared.Trailer.{Trailer}
@@ -64,8 +64,8 @@ unfoldable pub none_brought : Brought
 none_brought = record { tag = none; anchor = none; raw = none; modified = false }
 
 unfoldable pub file_of : File → Option ℕ
-file_of Absent = none
-file_of (Id n) = some n
+file_of None = none
+file_of (Some n) = some n
 
 unfoldable pub is_below : Side → Bool
 is_below Above = false

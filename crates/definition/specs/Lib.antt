@@ -13,6 +13,7 @@ pub mod Walk
 pub mod Document
 pub mod Change
 pub mod Records
+pub mod Refusal
 pub mod Deck
 pub mod Calls
 pub mod Program

@@ -10,8 +10,7 @@ use Rattle.definition.specs.declared.Form.{Form}
 use Rattle.definition.specs.declared.Form.TheVariants.{Block, Flow}
 use Rattle.definition.specs.declared.Side.{Side}
 use Rattle.definition.specs.declared.Side.TheVariants.{Above, Below}
-use Rattle.definition.specs.declared.File.{File}
-use Rattle.definition.specs.declared.File.TheVariants.{Absent, Id}
+use Rattle.std.specs.Prelude.{Option, None, Some}
 use Rattle.definition.specs.declared.Include.{Include}
 use Rattle.definition.specs.declared.Heading.{Heading}
 use Rattle.definition.specs.declared.Trailer.{Trailer}
@@ -41,9 +40,13 @@ form_of b = when eqb b 0 then Block else Flow
 unfoldable pub side_of : ℕ → Side
 side_of b = when eqb b 0 then Above else Below
 
+-- the id of an include's file, which may be absent
+abbrev pub File : Type 0
+File = Option ℕ
+
 -- the file id of an include: ignored where the byte before it says that it is absent
 unfoldable pub file_at : Bytes → ℕ → File
-file_at deck at = when eqb (byte_at deck at) 0 then Absent else Id (word_at deck (at + 1) + 65536 * word_at deck (at + 3))
+file_at deck at = when eqb (byte_at deck at) 0 then None else Some (word_at deck (at + 1) + 65536 * word_at deck (at + 3))
 
 unfoldable pub include_at : Bytes → ℕ → Include
 include_at deck at = record { tag = text_at deck at; target = text_at deck (at + 4); file = file_at deck (at + 8) }

@@ -1,27 +1,27 @@
 -- Laws of documents.
 -- Assumes nothing.
 use mathlib.Core.Path.{◌≡◌, refl, sym, ap, ◌∙◌}
-use Prim.Native.Nat.{ℕ, zero, suc, ◌-◌, ◌<◌, ◌≤◌}
+use Prim.Native.Nat.{ℕ, zero, suc, ◌+◌, ◌-◌, ◌<◌, ◌≤◌}
 use native.Mathlib.Omega.{arith}
 use mathlib.Core.Bool.{Bool, true, false, not, ◌&&◌, true≢false}
 use mathlib.Core.List.{[], ◌∷◌}
-use lib.ListN.{length, get_or}
+use lib.ListN.{length}
 use lib.Dec.{eqb, leb}
-use borrow.Author.Tests.{eqb-true, leb-true, leb-false, le-leb, lt-leb, not-true}
+use borrow.Author.Tests.{ne_eqb, eqb-true, leb-true, leb-false, le-leb, lt-leb, not-true}
 use Rattle.definition.specs.Base.{Bytes, when◌then◌else◌}
 use Rattle.definition.specs.Settings.{step_of}
 use Rattle.definition.specs.Deck.{marked, layout_of}
 use Rattle.definition.specs.Tree.{Node, kept}
-use Rattle.definition.specs.Pen.{Script, ◌>>◌, nothing}
+use Rattle.definition.specs.Ascii.{LF, DOT, '-'}
+use Rattle.definition.specs.Pen.{Script, ◌>>◌, nothing, newline}
 use Rattle.definition.specs.Walk.{comment_lines, heads_that, heads, foots, props_line, include_line, content, members}
-use Rattle.definition.specs.Document.{directives, body, bom, document, one_document, separation, later_documents, all_documents}
+use Rattle.definition.specs.Document.{dashes, dots, directives, body, bom, document, one_document, separation, later_documents, all_documents}
 use Rattle.definition.specs.declared.Cursor.{Cursor}
 use Rattle.definition.specs.declared.Lines.{Lines}
 use Rattle.definition.specs.declared.Settings.{Settings}
 use Rattle.laws.specs.Tests.{by-test, both_left, both_right}
-use Rattle.node.specs.declared.Held.{Held}
+use Rattle.node.specs.Head.{Maybe}
 use Rattle.node.specs.declared.Lead.{Lead}
-use Rattle.node.specs.declared.Remark.{Remark}
 use Rattle.node.specs.Total.{run_from, kept_of, origin_of, remark_of, trees_from, trees_of}
 use Rattle.node.specs.Ends.{Ends}
 use Rattle.pen.specs.Pen.{Pen, puts, ink}
@@ -31,8 +31,8 @@ use Rattle.parts.specs.Lines.{directed}
 use Rattle.spot.specs.declared.Body.{Body}
 use Rattle.spot.specs.declared.Body.TheVariants as body
 use Rattle.spot.specs.declared.Spot.{Spot}
-use Rattle.spot.specs.Spot.{end_of, kept_in, brought_in, kind_in, end_in, node_in, spot_at, tree-value}
-use Rattle.spot.specs.Good.{Good, count_in, spot-good, few-spot}
+use Rattle.spot.specs.Spot.{count_in, end_of, kept_in, brought_in, kind_in, end_in, node_in, spot_at, tree-value}
+use Rattle.spot.specs.Good.{Good, spot-good}
 use Rattle.atoms.specs.Atoms.{on}
 use Rattle.choices.specs.Choices.{block_in, none_in, included_in, root_column_in, bare_root_in, block-is, included-is, root-column-is, bare-root-is}
 use Rattle.joints.specs.declared.Manner.TheVariants.{Value}
@@ -44,6 +44,39 @@ use Rattle.layout.specs.Emitting.{drawn-first, calm-line, line-value}
 use Rattle.block.specs.Rows.{Footed}
 use Rattle.document.specs.Root.{calm-emits}
 use Rattle.document.specs.Pieces.{start_in, stop_in, plain_in, opened, front_in, placed_of, documents_left, placed_from, block_root, line_root, root_of, front-is}
+
+-- what is written where it is wanted, and a line of dashes or dots
+pub wanted :
+    (b : Bool) (a : Script) (t : Bytes) {P Q : Pen} → ((s : Settings) → ink s a P ≡ puts t P) → Q ≡ puts (when b then t else []) P
+    → Draws (when b then a else nothing) P Q
+unfolding ink nothing puts
+wanted true a t f e = record { drawn = λ s. e ∙ sym (f s) }
+wanted false a t f e = record { drawn = λ s. e }
+
+pub unwanted :
+    (b : Bool) (a : Script) (t : Bytes) {P Q : Pen} → ((s : Settings) → ink s a P ≡ puts t P) → Q ≡ puts (when not b then t else []) P
+    → Draws (when b then nothing else a) P Q
+unfolding ink nothing puts
+unwanted true a t f e = record { drawn = λ s. e }
+unwanted false a t f e = record { drawn = λ s. e ∙ sym (f s) }
+
+pub of-dashes : (s : Settings) (P : Pen) → ink s dashes P ≡ puts ('-' ∷ '-' ∷ '-' ∷ LF ∷ []) P
+unfolding ink dashes newline puts
+of-dashes s P = refl
+
+pub of-dots : (s : Settings) (P : Pen) → ink s dots P ≡ puts (DOT ∷ DOT ∷ DOT ∷ LF ∷ []) P
+unfolding ink dots newline puts
+of-dots s P = refl
+
+-- the documents that are left at the first turn, and one turn later; one that is not the first
+pub first-left : (n : ℕ) → n - 0 ≡ n
+first-left n = omega arith
+
+pub next-left : (n k : ℕ) → n - (k + 1) ≡ n - k - 1
+next-left n k = omega arith
+
+pub not-first : (k : ℕ) → eqb (k + 1) 0 ≡ false
+not-first k = ne_eqb (k + 1) 0 (λ e. absurd (omega (arith, e)))
 
 -- nothing stands before the root
 pub plain-opened : (deck pool : Bytes) (l : Lead) {P : Pen} → plain_in l ≡ true → Draws (opened deck pool l) P P
@@ -93,7 +126,7 @@ module _ (s : Settings) (deck pool : Bytes) where
       record { drawn = rw (block-is deck pool x.body x.next, t) m.drawn; next = m.next; onward = m.onward; within = m.within }
 
   -- a bare root has no children
-  bare-end : (l : Lines) (m : Remark) (t a : Held) (b : Body) (c : Cursor) → bare_root_in s l m t a b ≡ true → end_of deck pool b c ≡ c
+  bare-end : (l : Lines) (m : Maybe) (t a : Maybe) (b : Body) (c : Cursor) → bare_root_in s l m t a b ≡ true → end_of deck pool b c ≡ c
   unfolding bare_root_in none_in end_of
   bare-end l m t a body.Null c h = refl
   bare-end l m t a (body.Scalar w) c h = refl
@@ -130,12 +163,12 @@ module _ (s : Settings) (deck pool : Bytes) where
 
   -- what a root's content asks for
   pub root-asks :
-      (c : Cursor) (x : Spot) {P : Pen} → Calm s deck pool P c.at 0 → ((k : ℕ) → get_or deck k 0 < 256) → x ≡ spot_at deck c
+      (c : Cursor) (x : Spot) {P : Pen} → Calm s deck pool P c.at 0 → count_in x.body < 65536 → x ≡ spot_at deck c
       → Calm s deck pool P x.place 0 × Good deck x × (count_in x.body < 65536)
   root-asks c x b h e =
       let k = b.ready.here in
       let g = spot-good deck c x k b.ready.deck-small e in
-      (calm-further b x.place g.1 g.2, g.0, few-spot deck h c x k e)
+      (calm-further b x.place g.1 g.2, g.0, h)
 
   pub root-directed :
       (passed : Bool) (c r : Cursor) (x : Spot) {P Q : Pen} → (included_in x.lead.origin && not passed) ≡ true
@@ -214,6 +247,15 @@ module _ (s : Settings) (deck pool : Bytes) where
     pub same : ink s (placed_from s deck pool passed first left here) P ≡ ink s (placed_from s deck pool passed true left₀ here₀) P₀
     pub size : length P.out ≡ length P₀.out
     pub calm : Calm s deck pool P here.at 0
+
+  -- the documents that are left: none at the deck's end
+  pub left-none : (c : Cursor) (left : ℕ) → length deck ≤ c.at → 0 ≡ documents_left deck c left
+  unfolding documents_left
+  left-none c left h = rw (le-leb (length deck) c.at h)
+
+  pub left-more : (c : Cursor) (left : ℕ) → c.at < length deck → left - 1 ≡ documents_left deck c left
+  unfolding documents_left
+  left-more c left h = rw (lt-leb (length deck) c.at h)
 
   pub file-start : (passed : Bool) (P : Pen) (n : ℕ) (c : Cursor) → Calm s deck pool P c.at 0 → Pending passed P n c P true n c
   file-start passed P n c b = record { same = refl; size = refl; calm = b }

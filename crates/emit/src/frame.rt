@@ -1,5 +1,5 @@
 // The emit program's work, on slices: the input is cut into deck and pool, and what is to be shown is put at the front of the output.
-ghost use Rattle.std.specs.Prelude.{◌≡◌, ◌+◌, ◌≤◌, ◌%◌, min, [], ◌∷◌, length};
+ghost use Rattle.std.specs.Prelude.{◌≡◌, ◌+◌, ◌≤◌, ◌%◌, [], ◌∷◌, length};
 ghost use Rattle.definition.specs.Program.{refusal_line, shown, emit_into, program};
 ghost use Rattle.definition.specs.Program.{decimal as digitsOf};
 ghost use Rattle.emit.specs.Front.{Adds, Shows, blank};
@@ -32,12 +32,9 @@ fn put_text(out: &mut [u8], at: usize, text: &[u8]) -> usize
     requires { at + length text.now ≤ length out.old }
     ensures { Adds text.now at out.old result out.new }
 {
-    let mut i = 0;
-    while i < text.len() {
-        out[at + i] = text[i];
-        i += 1;
-    }
-    at + i
+    let end = at + text.len();
+    out[at..end].copy_from_slice(text);
+    end
 }
 
 fn digit(n: usize) -> u8
@@ -46,7 +43,8 @@ fn digit(n: usize) -> u8
     48 + (n % 10) as u8
 }
 
-// A number in decimal digits, of which it has at most so many.
+// A number in decimal digits, of which it has at most so many. By hand, and not by `Display`: std promises what it prints of a String alone,
+// which takes memory.
 fn put_decimal(out: &mut [u8], at: usize, most: usize, n: usize) -> usize
     requires { at + most ≤ length out.old }
     ensures { Adds (digitsOf most n) at out.old result out.new × (result ≤ at + most) }
@@ -91,12 +89,6 @@ fn deck_length(input: &[u8]) -> usize
     deck::word(input, 0) + 65536 * deck::word(input, 2)
 }
 
-fn least(a: usize, b: usize) -> usize
-    ensures { result ≡ min a b }
-{
-    if a < b { a } else { b }
-}
-
 // What the program writes is put at the front of the output: so many bytes.
 pub fn run(input: &[u8], out: &mut [u8]) -> usize
     requires { out.old ≡ blank }
@@ -109,6 +101,6 @@ pub fn run(input: &[u8], out: &mut [u8]) -> usize
     if n > 65536 {
         return refuse(out, 2, 0);
     }
-    let mid = least(4 + n, input.len());
+    let mid = (4 + n).min(input.len());
     show(&input[4..mid], &input[mid..], out)
 }

@@ -1,22 +1,21 @@
 -- Laws of the step: what a turn over the heads comes to, how a file's writer begins and ends.
 -- Assumes nothing.
-use mathlib.Core.Path.{◌≡◌, refl, sym, ap, ◌∙◌}
-use Prim.Native.Nat.{ℕ, zero, suc, ◌+◌, ◌-◌, ◌<◌, ◌≤◌}
+use mathlib.Core.Path.{◌≡◌, sym, ap, ◌∙◌}
+use Prim.Native.Nat.{ℕ, suc, ◌+◌, ◌-◌, ◌<◌, ◌≤◌}
 use native.Mathlib.Omega.{arith}
-use mathlib.Core.Bool.{Bool, true, false, not}
+use mathlib.Core.Bool.{true, false}
 use mathlib.Core.List.{[], ◌++◌, append-nil}
-use lib.ListN.{length, take, drop, length-drop, drop_of_length-le}
-use lib.Dec.{eqb}
+use lib.Dec.{ltb}
+use lib.Seq.{length-take-le}
+use lib.ListN.{length, length-append, take, drop, length-drop, drop_of_length-le}
 use borrow.Author.Rules.{part_to_end}
-use borrow.Author.Tests.{eq-eqb, ne_eqb}
-use Rattle.definition.specs.Base.{Bytes}
+use borrow.Author.Tests.{lt-ltb, le-ltb}
+use Rattle.std.specs.Prelude.{Option, None, Some}
+use Rattle.definition.specs.Base.{Bytes, when◌then◌else◌}
 use Rattle.definition.specs.Settings.{null_as, plain_settings}
 use Rattle.definition.specs.Document.{one_document}
-use Rattle.definition.specs.Calls.{no_change}
 use Rattle.definition.specs.declared.Cursor.{Cursor}
 use Rattle.definition.specs.declared.Settings.{Settings}
-use Rattle.definition.specs.declared.File.{File}
-use Rattle.definition.specs.declared.File.TheVariants.{Absent, Id}
 use Rattle.pen.specs.declared.Writer.{Writer}
 use Rattle.pen.specs.Pen.{Fields, Pen, fields, page, pen, ended, ink}
 use Rattle.pen.specs.Shown.{begun}
@@ -28,66 +27,31 @@ use Rattle.files.specs.declared.Walk.{Walk}
 use Rattle.files.specs.declared.Made.{Made}
 use Rattle.files.specs.declared.Found.{Found}
 use Rattle.files.specs.Scan.{step_at, step-onward}
-use Rattle.files.specs.Files.{found_of, look_at, found_from, found_at, file_pen, Step, still, file_step, is_ready, step_of, made_at, out_after, Looks, Finds}
-use Rattle.files.specs.Step.{Ready, is-ready, step-unready, step-none, step-file}
+use Rattle.files.specs.Files.{found_or, found_from, found_at, file_pen, Step, still, made_of, file_step, found_step, is_ready, made_at, out_after, Finds}
+use Rattle.files.specs.Step.{step-unready, step-found}
 
 -- ---- heads
 
-pub looked : (deck : Bytes) (c d : Cursor) (f g : File) → d ≡ step_at deck c → modified.Files deck c f → f ≡ g → Looks deck c (found_of g c d)
-unfolding look_at
-looked deck c d f g e t q = record { told = λ pool. ap (λ (x : File). found_of x c d) (sym q ∙ t.told pool) ∙ ap (found_of (modified.file_at deck pool c) c) e }
-
--- the heads that are left, m from a cursor on, come to what all of them do
-pub record Finding (deck : Bytes) (n : ℕ) (c : Cursor) (m : ℕ) (d : Cursor) : Type 0 where
-  pub same : (pool : Bytes) → found_from deck pool m d ≡ found_from deck pool n c
+-- i of n heads are passed: those that are left come to what all of them do
+pub record Finding (deck : Bytes) (c : Cursor) (n i : ℕ) (d : Cursor) : Type 0 where
+  pub same : (pool : Bytes) → found_from deck pool (n - i) d ≡ found_from deck pool n c
   pub here : d.at ≤ length deck
 
-pub finding-first : (deck : Bytes) (n : ℕ) (c : Cursor) → c.at ≤ length deck → Finding deck n c n c
-finding-first deck n c k = record { same = λ pool. refl; here = k }
+module _ (deck : Bytes) (c : Cursor) (i : ℕ) (d : Cursor) where
+  one-more : (n : ℕ) → i < n → n - i ≡ suc (n - (i + 1))
+  one-more n h = omega arith
 
-found-places : (f : File) (c d : Cursor) → ((found_of f c d).at ≡ c) × ((found_of f c d).next ≡ d)
-unfolding found_of
-found-places Absent c d = (refl, refl)
-found-places (Id i) c d = (refl, refl)
+  pub found-stop : (e : Cursor) (j : ℕ) → Finding deck c (length deck) i d → i < length deck → e ≡ step_at deck d → modified.Files deck d (Some j) → Finds deck c (Some (record { id = j; at = d; next = e }))
+  unfolding found_at found_from found_or
+  found-stop e j f h q t = record { told = λ pool. rw q (rw (one-more (length deck) h, ← t.told pool) at (f.same pool)); here = f.here }
 
-look-places : (deck : Bytes) (c : Cursor) (f : Found) → Looks deck c f → (f.at ≡ c) × (f.next ≡ step_at deck c)
-unfolding look_at
-look-places deck c f l =
-    let p = found-places (modified.file_at deck [] c) c (step_at deck c) in
-    (ap (λ (x : Found). x.at) (l.told []) ∙ p.0, ap (λ (x : Found). x.next) (l.told []) ∙ p.1)
+  pub found-more : (n : ℕ) (e : Cursor) → Finding deck c n i d → i < n → e ≡ step_at deck d → modified.Files deck d None → Finding deck c n (i + 1) e
+  unfolding found_from found_or
+  found-more n e f h q t = record { same = λ pool. rw q (rw (one-more n h, ← t.told pool) at (f.same pool)); here = rw q (step-onward deck [] d f.here).1 }
 
-pub found-stop :
-    (deck : Bytes) (c : Cursor) (m : ℕ) (d : Cursor) (f : Found) → Finding deck (length deck) c m d → 0 < m → Looks deck d f → (f.present ≡ 0 → ⊥) → Finds deck c f
-unfolding found_at found_from
-found-stop deck c zero d f i p l n = absurd (omega arith)
-found-stop deck c (suc m) d f i p l n =
-    record {
-      told = λ pool.
-          (let e : f ≡ look_at deck pool d = l.told pool in
-          let z : eqb (look_at deck pool d).present 0 ≡ false = rw (← e) (ne_eqb _ _ n) in
-          e ∙ sym (rw z) ∙ i.same pool);
-      here = rw (look-places deck d f l).0 i.here;
-    }
-
-pub found-more :
-    (deck : Bytes) (n : ℕ) (c : Cursor) (m : ℕ) (d : Cursor) (f : Found) → Finding deck n c m d → 0 < m → Looks deck d f → f.present ≡ 0 → Finding deck n c (m - 1) f.next
-unfolding found_from
-found-more deck n c zero d f i p l z = absurd (omega arith)
-found-more deck n c (suc m) d f i p l z =
-    record {
-      same = λ pool.
-          (let e : f ≡ look_at deck pool d = l.told pool in
-          let t : eqb (look_at deck pool d).present 0 ≡ true = rw (← e) (eq-eqb _ _ z) in
-          let k : suc m - 1 ≡ m = omega arith in
-          rw k (ap (λ (x : Found). found_from deck pool m x.next) e ∙ sym (rw t) ∙ i.same pool));
-      here = rw (look-places deck d f l).1 (step-onward deck [] d i.here).1;
-    }
-
-pub found_none :
-    (deck : Bytes) (c : Cursor) (m : ℕ) (d : Cursor) → Finding deck (length deck) c m d → m ≤ 0 → Finds deck c (record { present = 0; id = 0; at = d; next = d })
-unfolding found_at found_from found_of
-found_none deck c zero d i p = record { told = λ pool. i.same pool; here = i.here }
-found_none deck c (suc m) d i p = absurd (omega arith)
+  pub found_none : Finding deck c (length deck) i d → length deck ≤ i → Finds deck c None
+  unfolding found_at found_from
+  found_none f h = let z : length deck - i ≡ 0 = omega arith in record { told = λ pool. rw z at (f.same pool); here = tt }
 
 -- ---- a file
 
@@ -122,59 +86,54 @@ file-pen deck pool out start c s w v to e f q =
 nothing-after : (out : Bytes) (start : ℕ) → drop (length out - start) (drop start out) ≡ []
 nothing-after out start = drop_of_length-le (drop start out) {i = length out - start} (rw (length-drop start out) (omega arith))
 
-pub file-done :
-    (deck pool out : Bytes) (start : ℕ) (f : Found) (s : Settings) (w v : Writer) (to : Bytes) (n : ℕ) → n ≡ (fields v).len → s ≡ plain_settings → fields w ≡ begun s
-    → pen v to ≡ ended (ink s (one_document s true (node_at deck pool f.at)) (pen w (part start out)))
-    → (record { change = record { id = f.id; start = start; length = n }; next = record { at = f.next.at; start = start + n; zero = 0 } } ≡ (file_step deck pool out start f).made)
-    × (take start out ++ (to ++ drop (length out - start) (drop start out)) ≡ (file_step deck pool out start f).out)
-unfolding file_step
-file-done deck pool out start f s w v to n l e g q =
-    let z = file-pen deck pool out start f.at s w v to e g q in
-    let m : ℕ → Made = λ k. record { change = record { id = f.id; start = start; length = k }; next = record { at = f.next.at; start = start + k; zero = 0 } } in (
-      ap m (l ∙ ap (λ (p : Pen). p.w.len) z),
-      ap (λ (x : Bytes). take start out ++ (to ++ x)) (nothing-after out start) ∙ ap (λ (x : Bytes). take start out ++ x) (append-nil to) ∙ ap (λ (p : Pen). take start out ++ p.out) z,
-    )
+-- the output keeps its length
+kept : (out to : Bytes) (start : ℕ) → length to ≡ length (part start out) → start ≤ length out → length (take start out ++ (to ++ drop (length out - start) (drop start out))) ≡ length out
+kept out to start t h =
+    let a : length (take start out) ≡ start = length-take-le start out h in
+    let b : length to ≡ length out - start = t ∙ ap length (part_to_end out start) ∙ length-drop start out in
+    simp (length-append, length-drop) (omega (arith, a, b, h))
+
+module _ (deck pool out : Bytes) (start : ℕ) (f : Found) (s : Settings) (w v : Writer) (to : Bytes) (n : ℕ) (l : n ≡ (fields v).len) (e : s ≡ plain_settings) (g : fields w ≡ begun s)
+    (q : pen v to ≡ ended (ink s (one_document s true (node_at deck pool f.at)) (pen w (part start out)))) where
+  abbrev Writes : Option Made → Type 0
+  Writes r = (r ≡ (file_step deck pool out start f).made) × (take start out ++ (to ++ drop (length out - start) (drop start out)) ≡ (file_step deck pool out start f).out)
+
+  written : Writes (when ltb (length out) (start + n) then None else Some (made_of start n f))
+  unfolding file_step
+  written =
+      let z = file-pen deck pool out start f.at s w v to e g q in (
+        ap (λ (k : ℕ). when ltb (length out) (start + k) then None else Some (made_of start k f)) (l ∙ ap (λ (p : Pen). p.w.len) z),
+        ap (λ (x : Bytes). take start out ++ (to ++ x)) (nothing-after out start) ∙ ap (λ (x : Bytes). take start out ++ x) (append-nil to) ∙ ap (λ (p : Pen). take start out ++ p.out) z,
+      )
+
+  module _ (t : length to ≡ length (part start out)) (h : start ≤ length out) where
+    abbrev after : Bytes
+    after = take start out ++ (to ++ drop (length out - start) (drop start out))
+
+    pub file-over : length after < start + n → Writes None
+    file-over o = rw (lt-ltb _ _ (rw (kept out to start t h) at o)) at written
+
+    pub file-done : start + n ≤ length after → Writes (Some (record { change = record { id = f.id; start = start; length = n }; next = record { at = f.next; start = start + n } }))
+    unfolding made_of
+    file-done o = rw (le-ltb _ _ (rw (kept out to start t h) at o)) at written
 
 -- ---- the step
 
-pub stayed :
-    (deck pool out : Bytes) (w : Walk) (r : Made) → step_of deck pool out w ≡ still out w → r ≡ record { change = no_change; next = w }
-    → (r ≡ made_at deck pool out w) × (out ≡ out_after deck pool out w)
-unfolding made_at out_after still
-stayed deck pool out w r e h = (h ∙ sym (ap (λ (x : Step). x.made) e), sym (ap (λ (x : Step). x.out) e))
+module _ (deck pool out : Bytes) (w : Walk) where
+  abbrev Steps : Option Made → Bytes → Type 0
+  Steps r to = (r ≡ made_at deck pool out w) × (to ≡ out_after deck pool out w)
 
-pub stepped :
-    (deck pool out to : Bytes) (w : Walk) (f : Found) (r : Made) → step_of deck pool out w ≡ file_step deck pool out w.start f
-    → (r ≡ (file_step deck pool out w.start f).made) × (to ≡ (file_step deck pool out w.start f).out) → (r ≡ made_at deck pool out w) × (to ≡ out_after deck pool out w)
-unfolding made_at out_after
-stepped deck pool out to w f r e h = (h.0 ∙ sym (ap (λ (x : Step). x.made) e), h.1 ∙ sym (ap (λ (x : Step). x.out) e))
+  pub unready-still : false ≡ is_ready (length deck) (length pool) (length out) w → Steps None out
+  unfolding made_at out_after still
+  unready-still e = let q = step-unready deck pool out w (sym e) in (sym (ap (λ (s : Step). s.made) q), sym (ap (λ (s : Step). s.out) q))
 
-not-true : (b : Bool) → not b ≡ true → b ≡ false
-not-true true e = sym e
-not-true false e = refl
+  module _ (e : true ≡ is_ready (length deck) (length pool) (length out) w) where
+    pub none-still : Finds deck w.at None → Steps None out
+    unfolding made_at out_after found_step still
+    none-still t = let q = step-found deck pool out w (sym e) None (sym (t.told pool)) in (sym (ap (λ (s : Step). s.made) q), sym (ap (λ (s : Step). s.out) q))
 
-not-false : (b : Bool) → not b ≡ false → b ≡ true
-not-false true e = refl
-not-false false e = sym e
-
-pub ready_by : {deck pool out : ℕ} {w : Walk} {b : Bool} → b ≡ is_ready deck pool out w → b ≡ true → Ready deck pool out w
-ready_by {deck} {pool} {out} {w} {b} e h = is-ready deck pool out w (sym e ∙ h)
-
-pub unready-stayed :
-    (deck pool out : Bytes) (w : Walk) (b : Bool) (r : Made) → b ≡ is_ready (length deck) (length pool) (length out) w → b ≡ false
-    → r ≡ record { change = no_change; next = w } → (r ≡ made_at deck pool out w) × (out ≡ out_after deck pool out w)
-unready-stayed deck pool out w b r e h q = stayed deck pool out w r (step-unready deck pool out w (sym e ∙ h)) q
-
-pub none-stayed :
-    (deck pool out : Bytes) (w : Walk) (f : Found) (r : Made) → Finds deck (record { at = w.at }) f → f.present ≡ 0
-    → r ≡ record { change = no_change; next = w } → (r ≡ made_at deck pool out w) × (out ≡ out_after deck pool out w)
-none-stayed deck pool out w f r t h q = stayed deck pool out w r (step-none deck pool out w (ap (λ (x : Found). x.present) (sym (t.told pool)) ∙ h)) q
-
-pub file-stepped :
-    (deck pool out to : Bytes) (w : Walk) (b : Bool) (f : Found) (r : Made) → b ≡ is_ready (length deck) (length pool) (length out) w → b ≡ true
-    → Finds deck (record { at = w.at }) f → (f.present ≡ 0 → ⊥)
-    → (r ≡ (file_step deck pool out w.start f).made) × (to ≡ (file_step deck pool out w.start f).out) → (r ≡ made_at deck pool out w) × (to ≡ out_after deck pool out w)
-file-stepped deck pool out to w b f r e h t n q =
-    let z : f ≡ found_at deck pool (record { at = w.at }) = t.told pool in
-    let s = step-file deck pool out w (sym e ∙ h) (λ y. n (ap (λ (x : Found). x.present) z ∙ y)) in
-    stepped deck pool out to w f r (s ∙ ap (file_step deck pool out w.start) (sym z)) q
+    pub file-stepped :
+        {f : Found} {r : Option Made} {to : Bytes} → Finds deck w.at (Some f)
+        → (r ≡ (file_step deck pool out w.start f).made) × (to ≡ (file_step deck pool out w.start f).out) → Steps r to
+    unfolding made_at out_after found_step
+    file-stepped {f} t p = let q = step-found deck pool out w (sym e) (Some f) (sym (t.told pool)) in (p.0 ∙ sym (ap (λ (s : Step). s.made) q), p.1 ∙ sym (ap (λ (s : Step). s.out) q))

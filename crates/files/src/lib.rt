@@ -2,19 +2,17 @@
 #![tactic(auto)]
 
 ghost use Rattle.std.specs.Prelude.{◌≡◌, ◌≤◌, length};
-ghost use Rattle.definition.specs.Settings.{plain_settings};
-ghost use Rattle.definition.specs.Calls.{no_change};
-ghost use Rattle.files.specs.Files.{Looks, Finds, file_step, is_ready, made_at, out_after};
+ghost use Rattle.spot.specs.Spot.{spot_at};
+ghost use Rattle.files.specs.Files.{Finds, file_step, is_ready, made_at, out_after};
 
-use definition::{Change, Cursor, File, NullStyle, Settings};
+use definition::{Change, Cursor, NullStyle, Settings};
+use given::Given;
 
-// Where the walk over the deck stands, and where the next file starts in the output. Where `zero` is not 0 entries are zeros and nothing is
-// written.
+// Where the walk over the deck stands, and where the next file starts in the output.
 #[derive(Clone, Copy)]
 pub struct Walk {
-    pub at: usize,
+    pub at: Cursor,
     pub start: usize,
-    pub zero: usize,
 }
 
 // An entry, and the walk after it.
@@ -24,145 +22,75 @@ pub struct Made {
     pub next: Walk,
 }
 
-// What a head comes to: the id of its file where `present` is not 0, its cursor, and the next head's.
+// A changed file: its id, its node's cursor, and the next head's.
 #[derive(Clone, Copy)]
 struct Found {
-    present: usize,
     id: usize,
     at: Cursor,
     next: Cursor,
 }
 
-// The head at a cursor.
-fn look(deck: &[u8], c: Cursor) -> Found
-    requires { (c.at ≤ length deck.now) × (length deck.now ≤ 65536) }
-    ensures { Looks deck.now c result }
-{
-    let x = spot::spot_at(deck, c);
-    let next = x.next;
-    let file = modified::file_at(deck, c);
-    match file {
-        File::Absent => Found {
-            present: 0,
-            id: 0,
-            at: c,
-            next,
-        },
-        File::Id(id) => Found {
-            present: 1,
-            id,
-            at: c,
-            next,
-        },
-    }
-}
-
 // The first changed file of the heads from a cursor on. Heads stand in tree order.
-fn find(deck: &[u8], c: Cursor) -> Found
-    requires { (c.at ≤ length deck.now) × (length deck.now ≤ 65536) }
+fn find(deck: &[u8], c: Cursor) -> Option<Found>
+    requires { c.at ≤ length deck.now }
     ensures { Finds deck.now c result }
 {
     let mut here = c;
-    let mut left = deck.len();
-    while left > 0 {
-        let found = look(deck, here);
-        if found.present != 0 {
-            return found;
+    for _ in 0..deck.len() {
+        let next = spot::spot_at(deck, here).next;
+        if let Some(id) = modified::file_at(deck, here) {
+            return Some(Found { id, at: here, next });
         }
-        here = found.next;
-        left -= 1;
+        here = next;
     }
-    Found {
-        present: 0,
-        id: 0,
-        at: here,
-        next: here,
-    }
+    None
 }
 
-pub fn plain() -> Settings
-    ensures { result ≡ plain_settings }
+// A file is written from a place of the output on, by a writer of its own, under plain settings. None: it has no room there.
+fn write_file(given: &Given, out: &mut [u8], start: usize, found: Found) -> Option<Made>
+    requires { (length out.old ≤ 1048576) × (start ≤ length out.old) × (found.at.at ≤ length given.now.deck.now) × (length given.now.deck.now ≤ 65536) × (length given.now.pool.now ≤ 65536) }
+    ensures { (result ≡ (file_step given.now.deck.now given.now.pool.now out.old start found).made) × (out.new ≡ (file_step given.now.deck.now given.now.pool.now out.old start found).out) }
 {
-    Settings {
-        null_style: NullStyle::Null,
-        indent_sequences: false,
-        explicit_end: false,
-        indent: 0,
-        indentless: false,
-        single_quotes: false,
-        width: 0,
-    }
-}
-
-// A file is written from a place of the output on, by a writer of its own.
-fn write_file(deck: &[u8], pool: &[u8], out: &mut [u8], start: usize, f: Found) -> Made
-    requires { (length deck.now ≤ 65536) × (length pool.now ≤ 65536) × (length out.old ≤ 1048576) × (start ≤ length out.old) × (f.at.at ≤ length deck.now) }
-    ensures { (result ≡ (file_step deck.now pool.now out.old start f).made) × (out.new ≡ (file_step deck.now pool.now out.old start f).out) }
-{
-    let terms = terms::terms_of(plain());
-    let w = pen::fresh_writer(terms);
-    let c = f.at;
-    let v = document::write_one(w, deck, pool, &mut out[start..], terms, c, true);
+    let plain = Given {
+        deck: given.deck,
+        pool: given.pool,
+        settings: Settings::from(NullStyle::Null),
+    };
+    let w = pen::fresh_writer(&plain.settings);
+    let v = document::write_one(w, &plain, &mut out[start..], found.at, true);
     let length = v.len();
-    let next = f.next;
-    let change = Change {
-        id: f.id,
-        start,
-        length,
-    };
-    let on = Walk {
-        at: next.at,
-        start: start + length,
-        zero: 0,
-    };
-    Made { change, next: on }
+    let end = start + length;
+    if out.len() < end {
+        return None;
+    }
+    Some(Made {
+        change: Change {
+            id: found.id,
+            start,
+            length,
+        },
+        next: Walk {
+            at: found.next,
+            start: end,
+        },
+    })
 }
 
 // Deck, pool and output are within their limits, and the walk within deck and output.
+#[tactic(auto, unfolding(crate::specs::Files::is_ready))]
 fn is_ready(deck: usize, pool: usize, out: usize, w: Walk) -> bool
     ensures { result ≡ is_ready deck pool out w }
 {
-    if deck > 65536 {
-        return false;
-    }
-    if pool > 65536 {
-        return false;
-    }
-    if out > 1048576 {
-        return false;
-    }
-    if w.at > deck {
-        return false;
-    }
-    if w.start > out {
-        return false;
-    }
-    w.zero == 0
+    deck <= 65536 && pool <= 65536 && out <= 1048576 && w.at.at <= deck && w.start <= out
 }
 
-// No file: an entry of zeros, and the same walk.
-fn stay(w: Walk) -> Made
-    ensures { result ≡ record { change = no_change; next = w } }
+// The next changed file from a walk on, written into the output; its entry, and the walk after it. None: there is none, or it has no room.
+pub fn next_file(given: &Given, out: &mut [u8], w: Walk) -> Option<Made>
+    ensures { (result ≡ made_at given.now.deck.now given.now.pool.now out.old w) × (out.new ≡ out_after given.now.deck.now given.now.pool.now out.old w) }
 {
-    let change = Change {
-        id: 0,
-        start: 0,
-        length: 0,
-    };
-    Made { change, next: w }
-}
-
-// The next changed file from a walk on, written into the output; its entry, and the walk after it.
-pub fn next_file(deck: &[u8], pool: &[u8], out: &mut [u8], w: Walk) -> Made
-    ensures { (result ≡ made_at deck.now pool.now out.old w) × (out.new ≡ out_after deck.now pool.now out.old w) }
-{
-    if !is_ready(deck.len(), pool.len(), out.len(), w) {
-        return stay(w);
+    if !is_ready(given.deck.len(), given.pool.len(), out.len(), w) {
+        return None;
     }
-    let c = Cursor { at: w.at };
-    let f = find(deck, c);
-    if f.present == 0 {
-        return stay(w);
-    }
-    write_file(deck, pool, out, w.start, f)
+    let found = find(given.deck, w.at)?;
+    write_file(given, out, w.start, found)
 }

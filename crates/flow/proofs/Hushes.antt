@@ -3,7 +3,7 @@
 use mathlib.Core.Path.{◌≡◌, refl, sym, ◌∙◌}
 use Prim.Native.Nat.{ℕ, zero, suc, ◌-◌, ◌*◌, ◌<◌, ◌≤◌}
 use native.Mathlib.Omega.{arith}
-use mathlib.Core.Bool.{Bool, true, false, not, ◌||◌}
+use mathlib.Core.Bool.{Bool, true, false, not, ◌||◌, true≢false}
 use lib.ListN.{length}
 use Rattle.definition.specs.Base.{Bytes}
 use Rattle.definition.specs.Tree.{Node, node}
@@ -17,7 +17,7 @@ use Rattle.node.specs.Loud.{loud, loud_kind, some_of, loud_from, loud-items, lou
 use Rattle.node.specs.Ends.{Still}
 use Rattle.spot.specs.declared.Spot.{Spot}
 use Rattle.spot.specs.Spot.{kind_of, kind_in, node_in, spot_at, tree-value}
-use Rattle.choices.specs.Siblings.{some_from, SomeItems, SomePairs, some-items, some_pairs}
+use Rattle.choices.specs.Siblings.{some_from, Some, some-items, some_pairs}
 use Rattle.joints.specs.Entries.{next_at, last_of, entry_end, some_comments}
 use Rattle.flow.specs.Hushed.{trees_in, Hushed, HushedIn, Quiet, Lined}
 use Rattle.flow.proofs.Laws.{grouped}
@@ -121,29 +121,30 @@ module _ (deck pool : Bytes) where
 -- ---- the two tests
 
 module _ (deck : Bytes) (pairs : Bool) (n : ℕ) (c : Cursor) where
-  pub lined-quiet : (quiet : Bool) → quiet ≡ true → Lined deck quiet pairs n c false
-  lined-quiet quiet e = record { told = λ pool h. hushed-none deck pool pairs n c (rw e at h) }
+  pub lined_quiet : (quiet : Bool) → quiet ≡ true → Lined deck quiet pairs n c false
+  lined_quiet quiet e = record { told = λ pool h. hushed-none deck pool pairs n c (rw e at h) }
 
-  pub lined-pairs : (quiet r : Bool) → pairs ≡ true → SomePairs deck c n r → Lined deck quiet pairs n c r
-  unfolding some_comments
-  lined-pairs quiet r e s = record { told = λ pool h. rw e (s.told pool) }
-
-  pub lined-items : (quiet r : Bool) → pairs ≡ false → SomeItems deck c n r → Lined deck quiet pairs n c r
-  unfolding some_comments
-  lined-items quiet r e s = record { told = λ pool h. rw e (s.told pool) }
+  pub lined_found : (quiet r : Bool) → Some deck c (trees_in pairs n) r → Lined deck quiet pairs n c r
+  unfolding some_comments trees_in
+  lined_found quiet r s = record { told = λ pool h. s.told pool ∙ some-entries pool pairs }
+    where
+      some-entries : (pool : Bytes) (b : Bool) → some_from deck pool (trees_in b n) c ≡ some_comments deck pool b n c
+      some-entries pool true = some_pairs deck pool n c
+      some-entries pool false = some-items deck pool n c
 
   pub quiet_told : (still : Bool) → still ≡ true → Quiet deck still (trees_in pairs n) c true
   quiet_told still e = record { told = λ pool. rw e }
 
-  twice-is : (m : ℕ) → 2 * m ≡ twice m
-  unfolding twice
-  twice-is zero = refl
-  twice-is (suc m) = let e : 2 * m ≡ twice m = twice-is m in omega arith
+  pub quiet_found : (still r : Bool) → still ≡ false → Still deck (trees_in pairs n) c r → Quiet deck still (trees_in pairs n) c r
+  quiet_found still r e s = record { told = λ pool. rw e (s.told pool) }
 
-  pub quiet-pairs : (still r : Bool) → still ≡ false → pairs ≡ true → Still deck (2 * n) c r → Quiet deck still (trees_in pairs n) c r
-  unfolding trees_in
-  quiet-pairs still r e p s = record { told = λ pool. rw (e, p, ← twice-is n) (s.told pool) }
+pub trees_pairs : (pairs : Bool) (n : ℕ) → pairs ≡ true → 2 * n ≡ trees_in pairs n
+unfolding trees_in twice
+trees_pairs true zero e = refl
+trees_pairs true (suc m) e = let h : 2 * m ≡ trees_in true m = trees_pairs true m refl in omega arith
+trees_pairs false n e = absurd (true≢false (sym e))
 
-  pub quiet-items : (still r : Bool) → still ≡ false → pairs ≡ false → Still deck n c r → Quiet deck still (trees_in pairs n) c r
-  unfolding trees_in
-  quiet-items still r e p s = record { told = λ pool. rw (e, p) (s.told pool) }
+pub trees_items : (pairs : Bool) (n : ℕ) → pairs ≡ false → n ≡ trees_in pairs n
+unfolding trees_in
+trees_items false n e = refl
+trees_items true n e = absurd (true≢false e)

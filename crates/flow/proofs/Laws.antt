@@ -3,11 +3,11 @@
 use mathlib.Core.Path.{◌≡◌, refl, sym, ap, subst, ◌∙◌}
 use Prim.Native.Nat.{ℕ, zero, suc, ◌+◌, ◌-◌, ◌<◌, ◌≤◌, ◌^◌}
 use native.Mathlib.Omega.{arith}
-use mathlib.Core.Bool.{Bool, true, false, not}
+use mathlib.Core.Bool.{Bool, true, false}
 use mathlib.Core.List.{[], ◌∷◌}
 use lib.ListN.{length}
-use lib.Dec.{eqb, ltb}
-use borrow.Author.Tests.{ne_eqb}
+use lib.Dec.{eqb}
+use borrow.Author.Tests.{ne_eqb, eq-eqb, eqb-true, eqb-false}
 use Rattle.definition.specs.Base.{Bytes, when◌then◌else◌, spaces}
 use Rattle.definition.specs.Ascii.{LF, SP, '*'}
 use Rattle.definition.specs.Settings.{step_of}
@@ -22,18 +22,19 @@ use Rattle.definition.specs.declared.Words.{Words}
 use Rattle.definition.specs.declared.Settings.{Settings}
 use Rattle.node.specs.Total.{kept_of, brought_of, held_of, remark_of}
 use Rattle.pen.specs.declared.Writer.{Writer}
+use Rattle.pen.specs.Pen.{from_bool}
 use Rattle.pen.specs.Pen.{Pen, pen, put1, puts, ink, fields, page, with_flow, with_key}
 use Rattle.scripts.specs.Keep.{ink-in-flow, ink-in-key, flow-of, key_of, length-of}
 use Rattle.pen.specs.Draws.{Draws}
 use Rattle.spot.specs.declared.Body.{Body}
 use Rattle.spot.specs.declared.Body.TheVariants as body
 use Rattle.spot.specs.declared.Spot.{Spot}
-use Rattle.spot.specs.Spot.{kind_of, end_of, kept_in, brought_in, kind_in, end_in, node_in, spot_at, tree-value}
-use Rattle.spot.specs.Good.{Good, is_group, count_in}
+use Rattle.spot.specs.Spot.{count_in, kind_of, end_of, kept_in, brought_in, kind_in, end_in, node_in, spot_at, tree-value}
+use Rattle.spot.specs.Good.{Good, is_group}
 use Rattle.atoms.specs.Atoms.{on, null_in, commented, fresh_in}
 use Rattle.joints.specs.declared.Manner.{Manner}
-use Rattle.joints.specs.declared.Manner.TheVariants.{Entry, Key}
-use Rattle.joints.specs.Line.{rank_of, dressed, key_by, ending, line_of, line-key, line-entry}
+use Rattle.joints.specs.declared.Manner.TheVariants.{Entry, Value, Below, Key, Asked}
+use Rattle.joints.specs.Line.{dressed, key_by, ending, line_of, line-key, line-entry}
 use Rattle.joints.specs.Told.{LastOf}
 use Rattle.joints.specs.Entries.{node_at, next_at, last_of, entry_end, run_end, some_comments, item_of, entry_key, entry_of, flow_run, lined_before, lined_after, lined_of, is_none, lined_run, opening, closing, lined_in, plain_in, group_of, group-items, group-pairs, items-end, pairs_end}
 use Rattle.flow.specs.Ready.{Ready, Emits, after, further, keyed, at-cursor}
@@ -65,23 +66,40 @@ pub flowed-is : (w v : Writer) (n : ℕ) (out : Bytes) → pen v [] ≡ with_flo
 unfolding with_flow
 flowed-is w v n out e = ap (λ (p : Pen). page p.w out) e
 
--- a mark is a bit
-pub mark-small : (m : Manner) (k l : ℕ) → k < 2 → l ≡ key_by m 1 k → l < 2
-unfolding key_by
-mark-small m k l h q = rw q (go (ltb 2 (rank_of m)))
+-- the entries that are left at the first turn, and one turn later; the last one; one that is not the first
+pub first-left : (n : ℕ) → n - 0 ≡ n
+first-left n = omega arith
+
+pub next-left : (n k : ℕ) → n - (k + 1) ≡ n - k - 1
+next-left n k = omega arith
+
+pub last-left : (n k : ℕ) → k < n → eqb (k + 1) n ≡ eqb (n - k) 1
+last-left n k h = go (eqb (n - k) 1) refl
   where
-    go : (b : Bool) → (when b then 1 else k) < 2
-    go true = omega arith
-    go false = h
+    go : (b : Bool) → eqb (n - k) 1 ≡ b → eqb (k + 1) n ≡ b
+    go true e = eq-eqb _ _ (let p = eqb-true _ _ e in omega (arith, p))
+    go false e = ne_eqb _ _ (λ z. eqb-false _ _ e (omega (arith, z)))
+
+pub later : (k : ℕ) → eqb (k + 1) 0 ≡ false
+later k = ne_eqb (k + 1) 0 (λ e. absurd (omega (arith, e)))
+
+-- the mark inside a node, of a yes or no
+bit-key : (m : Manner) (k : Bool) → from_bool (key_by m true k) ≡ key_by m 1 (from_bool k)
+unfolding key_by
+bit-key Entry k = refl
+bit-key Value k = refl
+bit-key Below k = refl
+bit-key Key k = refl
+bit-key Asked k = refl
 
 -- the mark inside a node
 mark_on : (m : Manner) (n : ℕ) → on (key_by m 1 n) ≡ key_by m true (on n)
 unfolding on key_by
-mark_on m n = go (ltb 2 (rank_of m))
-  where
-    go : (b : Bool) → not (eqb (when b then 1 else n) 0) ≡ (when b then true else not (eqb n 0))
-    go true = refl
-    go false = refl
+mark_on Entry n = refl
+mark_on Value n = refl
+mark_on Below n = refl
+mark_on Key n = refl
+mark_on Asked n = refl
 
 last-is : (m : ℕ) → eqb (suc m) 1 ≡ is_none m
 unfolding is_none
@@ -116,11 +134,11 @@ module _ (s : Settings) (deck pool : Bytes) where
   content-alias x t i g b d = leaf-emits x _ g (rw b) (rw b d)
 
   pub content-words :
-      (x : Spot) (t : Words) (i : ℕ) {P Q : Pen} {m : Bool} → Good deck x → x.body ≡ body.Scalar t → m ≡ marked x.lead.lines.marks 1
-      → Q ≡ ink s (replays x.place (held_of deck pool x.lead.raw) m (fresh_in (F P) (K P) i x.place (remark_of deck pool x.lead.remark) (words pool t.text) t.style)) P
+      (x : Spot) (t : Words) (i : ℕ) {P Q : Pen} → Good deck x → x.body ≡ body.Scalar t
+      → Q ≡ ink s (replays x.place (held_of deck pool x.lead.raw) (marked x.lead.lines.marks 1) (fresh_in (F P) (K P) i x.place (remark_of deck pool x.lead.remark) (words pool t.text) t.style)) P
       → Emits s (content_in P i x) P Q x.place (end_in deck pool x) x.next (length deck)
   unfolding content_of kind_of end_of kept_of brought_of fresh fresh_in commented
-  content-words x t i g b e d = leaf-emits x _ g (rw b) (rw b (rw e at d))
+  content-words x t i g b d = leaf-emits x _ g (rw b) (rw b d)
 
   -- a flow collection, of items or of pairs
   content-group :
@@ -342,14 +360,14 @@ module _ (s : Settings) (deck pool : Bytes) where
 
   -- the same of writers: the key mark read, set, and set back
   pub line-whole-is :
-      (m : Manner) (r : Cursor) (x : Spot) (i k l : ℕ) (w w₁ w₂ u v : Writer) (out out₁ out₂ : Bytes) {P : Pen} → k ≡ (fields w).key
-      → Draws (dressed m (props (brought_in deck pool x))) (pen w out) (pen w₁ out₁) → l ≡ key_by m 1 k → pen w₂ [] ≡ with_key l (pen w₁ [])
+      (m : Manner) (r : Cursor) (x : Spot) (i : ℕ) (k l : Bool) (w w₁ w₂ u v : Writer) (out out₁ out₂ : Bytes) {P : Pen} → from_bool k ≡ (fields w).key
+      → Draws (dressed m (props (brought_in deck pool x))) (pen w out) (pen w₁ out₁) → l ≡ key_by m true k → pen w₂ [] ≡ with_key (from_bool l) (pen w₁ [])
       → Emits s (content_in (pen w₂ out₁) i x) (pen w₂ out₁) (pen u out₂) x.place (end_in deck pool x) r (length deck)
-      → pen v [] ≡ with_key k (pen u []) → Draws (ending m x.place (kept_in deck pool x) (kind_in deck pool x)) (pen v out₂) P
+      → pen v [] ≡ with_key (from_bool k) (pen u []) → Draws (ending m x.place (kept_in deck pool x) (kind_in deck pool x)) (pen v out₂) P
       → Emits s (line_of s (on (fields w).flow) (on (fields w).key) m i (node_in deck pool x)) (pen w out) P x.place (end_in deck pool x) r (length deck)
   line-whole-is m r x i k l w w₁ w₂ u v out out₁ out₂ g d t a e q z =
-      let n = subst (λ (p : Pen). Emits s (content_in p i x) p (pen u out₂) x.place (end_in deck pool x) r (length deck)) (keyed-is w₁ w₂ l out₁ a) e in
-      line-whole m r x i k l d (t ∙ ap (key_by m 1) g) n g (keyed-is u v k out₂ q) z
+      let n = subst (λ (p : Pen). Emits s (content_in p i x) p (pen u out₂) x.place (end_in deck pool x) r (length deck)) (keyed-is w₁ w₂ (from_bool l) out₁ a) e in
+      line-whole m r x i (from_bool k) (from_bool l) d (ap from_bool t ∙ bit-key m k ∙ ap (key_by m 1) g) n g (keyed-is u v (from_bool k) out₂ q) z
 
   pub lined-entry-whole :
       (pairs last : Bool) (c to r : Cursor) (x : Spot) (i : ℕ) {P₀ P₁ P₂ P₃ : Pen} → LastOf deck pairs c to → x ≡ spot_at deck to

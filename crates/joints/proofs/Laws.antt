@@ -1,16 +1,15 @@
 -- Laws of what stands between entries.
 -- Assumes nothing.
-use mathlib.Core.Path.{◌≡◌, sym, ap}
-use Prim.Native.Nat.{ℕ, ◌<◌, ◌≤◌}
+use mathlib.Core.Path.{◌≡◌, refl}
+use Rattle.std.proofs.Common.{◌⊎◌, inl, inr}
+use Prim.Native.Nat.{ℕ, ◌≤◌}
 use native.Mathlib.Omega.{arith}
 use mathlib.Core.Bool.{Bool, true, false}
 use lib.ListN.{length}
-use lib.Dec.{ltb}
-use borrow.Author.Tests.{lt-ltb, le-ltb}
-use Rattle.definition.specs.Base.{Bytes, when◌then◌else◌, spaces}
+use Rattle.definition.specs.Base.{Bytes, spaces}
 use Rattle.definition.specs.Ascii.{SP, ':'}
-use Rattle.definition.specs.Tree.{kept}
-use Rattle.definition.specs.Pen.{mark, space, sign, indent}
+use Rattle.definition.specs.Tree.{Kept, Kind, kept}
+use Rattle.definition.specs.Pen.{Script, mark, space, sign, indent, end_line}
 use Rattle.definition.specs.Walk.{colon}
 use Rattle.definition.specs.declared.Cursor.{Cursor}
 use Rattle.node.specs.declared.Lead.{Lead}
@@ -23,10 +22,12 @@ use Rattle.comments.specs.Runs.{Short, repeated}
 use Rattle.spot.specs.declared.Body.{Body}
 use Rattle.spot.specs.declared.Body.TheVariants as body
 use Rattle.spot.specs.declared.Spot.{Spot}
-use Rattle.spot.specs.Spot.{case_of, kind_of, spot_at, node_in, tree-value}
+use Rattle.definition.specs.declared.Text.{Text}
+use Rattle.spot.specs.Spot.{kind_of, spot_at, node_in, tree-value}
 use Rattle.spot.specs.Good.{good-at}
 use Rattle.joints.specs.declared.Manner.{Manner}
-use Rattle.joints.specs.Line.{rank_of, key_by}
+use Rattle.joints.specs.declared.Manner.TheVariants.{Entry, Value, Below, Key, Asked}
+use Rattle.joints.specs.Line.{dressed, ending}
 use Rattle.joints.specs.Entries.{last_of, key_heads, lined_before}
 use Rattle.joints.specs.Told.{Colon, LastOf}
 
@@ -38,35 +39,34 @@ pub last-item : (deck : Bytes) (pairs : Bool) (c : Cursor) → pairs ≡ false �
 unfolding last_of
 last-item deck pairs c e h = record { is = λ pool. rw e; onward = omega arith; within = h }
 
--- ---- the key mark
+-- ---- how a node stands on its line
 
-mark-is : (m : Manner) (k : ℕ) (b : Bool) → ltb 2 (rank_of m) ≡ b → (when b then 1 else k) ≡ key_by m 1 k
-unfolding key_by
-mark-is m k b t = sym (ap (λ (x : Bool). when x then 1 else k) t)
+pub dressed-so : (m : Manner) (a : Script) → (m ≡ Below → ⊥) → dressed m a ≡ a
+unfolding dressed
+dressed-so Entry a h = refl
+dressed-so Value a h = refl
+dressed-so Below a h = absurd (h refl)
+dressed-so Key a h = refl
+dressed-so Asked a h = refl
 
-pub in-key : (m : Manner) (n k : ℕ) → n ≡ rank_of m → 2 < n → 1 ≡ key_by m 1 k
-in-key m n k e t = mark-is m k true (lt-ltb 2 (rank_of m) (rw e at t))
-
-pub out-of-key : (m : Manner) (n k : ℕ) → n ≡ rank_of m → n ≤ 2 → k ≡ key_by m 1 k
-out-of-key m n k e t = mark-is m k false (le-ltb 2 (rank_of m) (rw e at t))
+pub ending-line : (m : Manner) (p : ℕ) (a : Kept) (k : Kind) → (m ≡ Below) ⊎ (m ≡ Asked) → ending m p a k ≡ end_line
+unfolding ending
+ending-line m p a k (inl e) = rw e
+ending-line m p a k (inr e) = rw e
 
 -- ---- the colon
 
-pub colon-alias : (b : Body) (n : ℕ) (P Q R : Pen) → n ≡ case_of b → n ≡ 2 → Q ≡ put1 P SP → R ≡ put1 Q ':' → Colon b P R
-unfolding colon kind_of sign case_of
-colon-alias body.Null n P Q R e h d f = absurd (omega (arith, e, h))
-colon-alias (body.Scalar w) n P Q R e h d f = absurd (omega (arith, e, h))
-colon-alias (body.Alias t) n P Q R e h d f = record { drawn = λ deck pool c. both _ _ (of-byte mark SP d) (of-byte mark ':' f) }
-colon-alias (body.Sequence g) n P Q R e h d f = absurd (omega (arith, e, h))
-colon-alias (body.Mapping g) n P Q R e h d f = absurd (omega (arith, e, h))
+pub colon-alias : (b : Body) (t : Text) (P Q R : Pen) → b ≡ body.Alias t → Q ≡ put1 P SP → R ≡ put1 Q ':' → Colon b P R
+unfolding colon kind_of sign
+colon-alias b t P Q R e d f = rw e (record { drawn = λ deck pool c. both _ _ (of-byte mark SP d) (of-byte mark ':' f) })
 
-pub colon-other : (b : Body) (n : ℕ) (P Q : Pen) → n ≡ case_of b → (n ≡ 2 → ⊥) → Q ≡ put1 P ':' → Colon b P Q
-unfolding colon kind_of sign case_of
-colon-other body.Null n P Q e h d = record { drawn = λ deck pool c. of-byte mark ':' d }
-colon-other (body.Scalar w) n P Q e h d = record { drawn = λ deck pool c. of-byte mark ':' d }
-colon-other (body.Alias t) n P Q e h d = absurd (h e)
-colon-other (body.Sequence g) n P Q e h d = record { drawn = λ deck pool c. of-byte mark ':' d }
-colon-other (body.Mapping g) n P Q e h d = record { drawn = λ deck pool c. of-byte mark ':' d }
+pub colon-other : (b : Body) (P Q : Pen) → ((t : Text) → b ≡ body.Alias t → ⊥) → Q ≡ put1 P ':' → Colon b P Q
+unfolding colon kind_of sign
+colon-other body.Null P Q h d = record { drawn = λ deck pool c. of-byte mark ':' d }
+colon-other (body.Scalar w) P Q h d = record { drawn = λ deck pool c. of-byte mark ':' d }
+colon-other (body.Alias t) P Q h d = absurd (h t refl)
+colon-other (body.Sequence g) P Q h d = record { drawn = λ deck pool c. of-byte mark ':' d }
+colon-other (body.Mapping g) P Q h d = record { drawn = λ deck pool c. of-byte mark ':' d }
 
 -- ---- head comments
 

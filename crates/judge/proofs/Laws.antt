@@ -1,28 +1,23 @@
 -- What the judge sees of the definition's reader: laws of `step_of`, by induction over the reader.
-use mathlib.Core.Path.{◌≡◌, refl, sym, ap, ◌∙◌}
+use mathlib.Core.Path.{◌≡◌, refl, ap, ◌∙◌}
 use Prim.Native.Nat.{ℕ, zero, suc, ◌+◌, ◌-◌, ◌<◌, ◌≤◌}
 use native.Mathlib.Omega.{arith}
 use mathlib.Core.Bool.{Bool, true, false}
-use mathlib.Core.List.{List, [], ◌∷◌}
-use lib.ListN.{length, take, drop}
-use lib.Dec.{eqb, ltb}
-use borrow.Author.Tests.{le-leb, lt-leb, lt-ltb, le-ltb, eq-eqb, ne_eqb}
+use mathlib.Core.List.{List, ◌∷◌}
+use lib.ListN.{length}
+use borrow.Author.Tests.{le-leb, lt-leb}
+use Rattle.std.proofs.Common.{add-one}
 use Rattle.definition.specs.Base.{Bytes, when◌then◌else◌}
-use Rattle.definition.specs.Utf8.{well_formed}
 use Rattle.definition.specs.Records.{kind_at, record_at, size_of, past}
 use Rattle.definition.specs.Tree.{Kept, Brought, Node, node, item, pair, sequence, mapping}
-use Rattle.definition.specs.Deck.{Read, fault, got, bind, Whole, words, keep, bring, is_node, references, texts_fault, sound, read_record, own_or_on, read_whole, node_of, read_items, read_pairs, read_node, read_trees, read_deck, none_kept, none_brought, deepest}
+use Rattle.definition.specs.Deck.{Read, fault, got, bind, Whole, keep, bring, is_node, sound, read_record, own_or_on, read_whole, node_of, read_items, read_pairs, read_node, read_trees, read_deck, none_kept, none_brought, deepest}
 use Rattle.definition.specs.declared.Cursor.{Cursor}
-use Rattle.definition.specs.declared.Text.{Text}
 use Rattle.definition.specs.declared.Record.{Record}
 use Rattle.definition.specs.declared.Record.TheVariants as is
 use Rattle.deck.specs.Kids.{kids_of, twice}
 use Rattle.deck.specs.Next.{next_of}
 use Rattle.deck.specs.Outcome.{Outcome, bad, good, outcome, sound-is, next_past}
-use Rattle.judge.specs.declared.Step.{Step}
-use Rattle.judge.specs.declared.Step.TheVariants as step
-use Rattle.judge.specs.declared.Verdict.TheVariants as verdict
-use Rattle.judge.specs.Judge.{step_of, chain, lead_of, Fitting, each, tally, verdict_of, refused_of}
+use Rattle.judge.specs.Judge.{Step, On, Refused, Good, Rejected, step_of, chain, lead_of, each, children, tally, verdict_of}
 
 bind-chain : {A B : Type 0} (r : Read A) (k : A → Cursor → Read B) (K : Cursor → Step) → ((a : A) (d : Cursor) → step_of (k a d) ≡ K d) → step_of (bind r k) ≡ chain (step_of r) K
 unfolding bind step_of chain
@@ -86,7 +81,7 @@ module _ (deck pool : Bytes) where
           step_of (bind (read_whole deck pool n (kind_at deck c) (keep pool (record_at deck c) a) (bring pool (record_at deck c) b) (past deck c)) k)
           ≡ chain (lead_of deck pool n (kind_at deck c) (past deck c)) K →
           step_of (bind (when w then got (whole_of deck a b c) (past deck c) else read_whole deck pool n (kind_at deck c) (keep pool (record_at deck c) a) (bring pool (record_at deck c) b) (past deck c)) k)
-          ≡ chain (when w then step.On c else lead_of deck pool n (kind_at deck c) (past deck c)) K
+          ≡ chain (when w then On c else lead_of deck pool n (kind_at deck c) (past deck c)) K
       own true ih = h a b c
       own false ih = ih
 
@@ -95,13 +90,13 @@ module _ (deck pool : Bytes) where
           step_of (bind (read_whole deck pool n (kind_at deck c) (keep pool (record_at deck c) a) (bring pool (record_at deck c) b) (past deck c)) k)
           ≡ chain (lead_of deck pool n (kind_at deck c) (past deck c)) K →
           step_of (bind (bind r (own_or_on pool (λ a' b' d. read_whole deck pool n (kind_at deck c) a' b' d) a b c.at)) k)
-          ≡ chain (chain (step_of r) (λ d. when is_node (record_at deck c) then step.On c else lead_of deck pool n (kind_at deck c) d)) K
+          ≡ chain (chain (step_of r) (λ d. when is_node (record_at deck c) then On c else lead_of deck pool n (kind_at deck c) d)) K
       go bad ih = refl
       go (good s) ih = own (is_node (record_at deck c)) ih
 
   -- how the children of the own record at a cursor are judged, with so many levels left
   abbrev below : ℕ → Cursor → Step
-  below zero p = step.Refused 6 p.at
+  below zero p = Refused 6 p.at
   below (suc n) p = each (λ d. step_of (read_node deck pool n d)) (kids_of (record_at deck p)) (past deck p)
 
   pub node-is : (n : ℕ) (c : Cursor) → step_of (read_node deck pool n c) ≡ chain (lead_of deck pool (length deck) 0 c) (below n)
@@ -112,190 +107,121 @@ module _ (deck pool : Bytes) where
       (λ a b p. node-each (read_node deck pool n) pool p.at a b (record_at deck p) (past deck p))
       (length deck) 0 none_kept none_brought c
 
--- ---- references
-
-module _ (pool : Bytes) (t : Text) where
-  pub text_out : length pool < t.from + t.len → 4 ≡ texts_fault pool (t ∷ [])
-  unfolding texts_fault
-  text_out h = rw (lt-ltb _ _ h)
-
-  text_in : (ts : List Text) → t.from + t.len ≤ length pool → texts_fault pool (t ∷ ts) ≡ (when well_formed (take t.len (drop t.from pool)) then texts_fault pool ts else 5)
-  unfolding texts_fault words
-  text_in ts h = rw (le-ltb _ _ h)
-
-  pub text-good : (w : Bool) → t.from + t.len ≤ length pool → w ≡ well_formed (take t.len (drop t.from pool)) → w ≡ true → 0 ≡ texts_fault pool (t ∷ [])
-  unfolding texts_fault
-  text-good w h e g = rw (text_in [] h, ← e, g)
-
-  pub text-bad : (w : Bool) → t.from + t.len ≤ length pool → w ≡ well_formed (take t.len (drop t.from pool)) → w ≡ false → 5 ≡ texts_fault pool (t ∷ [])
-  text-bad w h e g = rw (text_in [] h, ← e, g)
-
-  -- the first reference decides, unless it has no fault
-  texts-is : (ts : List Text) → texts_fault pool (t ∷ ts) ≡ (when eqb (texts_fault pool (t ∷ [])) 0 then texts_fault pool ts else texts_fault pool (t ∷ []))
-  unfolding texts_fault
-  texts-is ts = go (ltb (length pool) (t.from + t.len)) (well_formed (words pool t))
-    where
-      go :
-          (x y : Bool) →
-          (when x then 4 else when y then texts_fault pool ts else 5)
-          ≡ (when eqb (when x then 4 else when y then 0 else 5) 0 then texts_fault pool ts else (when x then 4 else when y then 0 else 5))
-      go true y = refl
-      go false true = refl
-      go false false = refl
-
-  pub texts-go : (ts : List Text) (n m : ℕ) → n ≡ texts_fault pool (t ∷ []) → n ≡ 0 → m ≡ texts_fault pool ts → m ≡ texts_fault pool (t ∷ ts)
-  texts-go ts n m e z f = rw (texts-is ts, ← e, eq-eqb n 0 z, f)
-
-  pub texts-stop : (ts : List Text) (n : ℕ) → n ≡ texts_fault pool (t ∷ []) → (n ≡ 0 → ⊥) → n ≡ texts_fault pool (t ∷ ts)
-  texts-stop ts n e z = rw (texts-is ts, ← e, ne_eqb n 0 z)
-
-pub no-texts : (pool : Bytes) → 0 ≡ texts_fault pool []
-unfolding texts_fault
-no-texts pool = refl
-
 -- ---- one record
 
-module _ (deck pool : Bytes) (last : ℕ) (c : Cursor) where
-  pub rec-end : length deck ≤ c.at → step.Refused 7 (length deck) ≡ step_of (read_record deck pool last c)
-  unfolding read_record step_of
-  rec-end h = rw (le-leb _ _ h)
+-- where refusal 3 has no reason, the total reader goes on where the definition's does
+pub sound_next : (deck : Bytes) (last : ℕ) (c : Cursor) → sound deck last c ≡ true → next_of deck c ≡ past deck c
+sound_next deck last c e = next_past deck last c (sound-is deck last c e).fits
 
-  pub rec-unsound : (s : Bool) → c.at < length deck → s ≡ sound deck last c → s ≡ false → step.Refused 3 c.at ≡ step_of (read_record deck pool last c)
-  unfolding read_record step_of
-  rec-unsound s h e f = rw (lt-leb _ _ h, ← e, f)
+-- ---- a node's leading records
 
-  pub rec-on :
-      (s : Bool) (r : Record) (next : Cursor) (n : ℕ) →
-      c.at < length deck → s ≡ sound deck last c → s ≡ true → r ≡ record_at deck c → next ≡ next_of deck c → n ≡ texts_fault pool (references r) → n ≡ 0 →
-      step.On next ≡ step_of (read_record deck pool last c)
-  unfolding read_record step_of
-  rec-on s r next n h e f g x m z = rw (lt-leb _ _ h, ← e, f, ← g, ← m, eq-eqb _ _ z, x, next_past deck last c (sound-is deck last c (sym e ∙ f)).fits)
-
-  pub rec-refers :
-      (s : Bool) (r : Record) (n : ℕ) →
-      c.at < length deck → s ≡ sound deck last c → s ≡ true → r ≡ record_at deck c → n ≡ texts_fault pool (references r) → (n ≡ 0 → ⊥) →
-      step.Refused n c.at ≡ step_of (read_record deck pool last c)
-  unfolding read_record step_of
-  rec-refers s r n h e f g m z = rw (lt-leb _ _ h, ← e, f, ← g, ← m, ne_eqb _ _ z)
-
-  -- ---- a node's leading records
-
-  pub lead-stop : (n : ℕ) (r : Step) (a b : ℕ) → 0 < n → r ≡ step_of (read_record deck pool last c) → r ≡ step.Refused a b → r ≡ lead_of deck pool n last c
-  unfolding lead_of chain
-  lead-stop zero r a b h e f = absurd (omega arith)
-  lead-stop (suc n) r a b h e f = rw (← e, f)
-
-  pub lead-node : (n : ℕ) (r : Step) (d : Cursor) (b : Bool) → 0 < n → r ≡ step_of (read_record deck pool last c) → r ≡ step.On d → b ≡ is_node (record_at deck c) → b ≡ true → step.On c ≡ lead_of deck pool n last c
-  unfolding lead_of chain
-  lead-node zero r d b h e f g t = absurd (omega arith)
-  lead-node (suc n) r d b h e f g t = rw (← e, f, ← g, t)
-
-  pub lead-more :
-      (n : ℕ) (r : Step) (d : Cursor) (b : Bool) (k : ℕ) →
-      0 < n → r ≡ step_of (read_record deck pool last c) → r ≡ step.On d → b ≡ is_node (record_at deck c) → b ≡ false → k ≡ kind_at deck c →
-      lead_of deck pool (n - 1) k d ≡ lead_of deck pool n last c
-  unfolding lead_of chain
-  lead-more zero r d b k h e f g t w = absurd (omega arith)
-  lead-more (suc n) r d b k h e f g t w = let s : suc n - 1 ≡ n = omega arith in rw (s, ← e, f, ← g, t, w)
-
-  pub lead-done : (n : ℕ) → n ≡ 0 → step.Refused 7 (length deck) ≡ lead_of deck pool n last c
+module _ (deck pool : Bytes) (n last : ℕ) (c : Cursor) where
+  pub lead_done : n ≡ 0 → lead_of deck pool n last c ≡ Refused 7 (length deck)
   unfolding lead_of
-  lead-done n e = rw e
+  lead_done e = rw e
 
-  -- a record that is read lies in the deck as a whole
-  pub lead-fits : (r : Step) (d : Cursor) → r ≡ step_of (read_record deck pool last c) → r ≡ step.On d → c.at + size_of (kind_at deck c) ≤ length deck
-  unfolding step_of
-  lead-fits r d e f = go (outcome deck last c pool) (sym e ∙ f)
-    where
-      go : {x : Read Record} → Outcome deck last c x → step_of x ≡ step.On d → c.at + size_of (kind_at deck c) ≤ length deck
-      go bad q = let o : ◌≡◌ {A = ℕ} 0 1 = cc in absurd (omega arith)
-      go (good s) q = s.fits
+  pub lead_stop : (a b : ℕ) → 0 < n → step_of (read_record deck pool last c) ≡ Refused a b → lead_of deck pool n last c ≡ Refused a b
+  unfolding lead_of chain
+  lead_stop a b h e = let p : n - 1 + 1 ≡ n = omega arith in rw (← p, add-one, e)
+
+  pub lead_node : (d : Cursor) → 0 < n → step_of (read_record deck pool last c) ≡ On d → is_node (record_at deck c) ≡ true → lead_of deck pool n last c ≡ On c
+  unfolding lead_of chain
+  lead_node d h e t = let p : n - 1 + 1 ≡ n = omega arith in rw (← p, add-one, e, t)
+
+  pub lead_more :
+      (m : ℕ) (d : Cursor) → m + 1 ≡ n → step_of (read_record deck pool last c) ≡ On d → is_node (record_at deck c) ≡ false →
+      lead_of deck pool n last c ≡ lead_of deck pool m (kind_at deck c) d
+  unfolding lead_of chain
+  lead_more m d h e t = rw (← h, add-one, e, t)
+
+-- a record that is read lies in the deck as a whole
+pub record_fits : (deck pool : Bytes) (last : ℕ) (c d : Cursor) → step_of (read_record deck pool last c) ≡ On d → c.at + size_of (kind_at deck c) ≤ length deck
+unfolding step_of
+record_fits deck pool last c d e = go (outcome deck last c pool) e
+  where
+    go : {x : Read Record} → Outcome deck last c x → step_of x ≡ On d → c.at + size_of (kind_at deck c) ≤ length deck
+    go bad q = cc
+    go (good s) q = s.fits
+
+pub ruleset lead_steps = (lead_done, lead_stop, lead_node, lead_more, record_fits)
 
 -- ---- a node
 
-pub each-stop : (f : Cursor → Step) (n : ℕ) (c : Cursor) (r : Step) (a b : ℕ) → 0 < n → r ≡ f c → r ≡ step.Refused a b → r ≡ each f n c
-unfolding each chain
-each-stop f zero c r a b h e g = absurd (omega arith)
-each-stop f (suc n) c r a b h e g = rw (← e, g)
+module _ (deck pool : Bytes) (levels n : ℕ) (c : Cursor) where
+  pub children_done : n ≡ 0 → children deck pool levels n c ≡ On c
+  unfolding children each
+  children_done e = rw e
 
-pub each_more : (f : Cursor → Step) (n : ℕ) (c : Cursor) (r : Step) (d : Cursor) → 0 < n → r ≡ f c → r ≡ step.On d → each f (n - 1) d ≡ each f n c
-unfolding each chain
-each_more f zero c r d h e g = absurd (omega arith)
-each_more f (suc n) c r d h e g = let s : suc n - 1 ≡ n = omega arith in rw (s, ← e, g)
+  pub children_stop : (a b : ℕ) → 0 < n → step_of (read_node deck pool levels c) ≡ Refused a b → children deck pool levels n c ≡ Refused a b
+  unfolding children each chain
+  children_stop a b h e = let p : n - 1 + 1 ≡ n = omega arith in rw (← p, add-one, e)
 
-pub each-done : (f : Cursor → Step) (n : ℕ) (c : Cursor) → n ≡ 0 → step.On c ≡ each f n c
-unfolding each
-each-done f n c e = rw e
+  pub children_more : (m : ℕ) (d : Cursor) → m + 1 ≡ n → step_of (read_node deck pool levels c) ≡ On d → children deck pool levels n c ≡ children deck pool levels m d
+  unfolding children each chain
+  children_more m d h e = rw (← h, add-one, e)
 
-pub fits_on : (deck : Bytes) (l : Step) (p : Cursor) → l ≡ step.On p → Fitting deck l → p.at + size_of (kind_at deck p) ≤ length deck
-fits_on deck l p e w = rw e at w
-
-module _ (deck pool : Bytes) (n : ℕ) (c : Cursor) (l : Step) (e : l ≡ lead_of deck pool (length deck) 0 c) where
-  pub node-stop : (a b : ℕ) → l ≡ step.Refused a b → l ≡ step_of (read_node deck pool n c)
+module _ (deck pool : Bytes) (n : ℕ) (c : Cursor) where
+  pub node_stop : (a b : ℕ) → lead_of deck pool (length deck) 0 c ≡ Refused a b → step_of (read_node deck pool n c) ≡ Refused a b
   unfolding chain
-  node-stop a b f = rw (node-is, ← e, f)
+  node_stop a b e = rw (node-is, e)
 
-  pub node-deep : (p : Cursor) → l ≡ step.On p → n ≡ 0 → step.Refused 6 p.at ≡ step_of (read_node deck pool n c)
+  pub node_deep : (p : Cursor) → lead_of deck pool (length deck) 0 c ≡ On p → n ≡ 0 → step_of (read_node deck pool n c) ≡ Refused 6 p.at
   unfolding chain
-  node-deep p f z = rw (node-is, ← e, f, z)
+  node_deep p e z = rw (node-is, e, z)
 
-  pub node-go :
-      (p next : Cursor) (k : ℕ) →
-      l ≡ step.On p → Fitting deck l → next ≡ next_of deck p → k ≡ kids_of (record_at deck p) → (n ≡ 0 → ⊥) →
-      each (λ d. step_of (read_node deck pool (n - 1) d)) k next ≡ step_of (read_node deck pool n c)
-  unfolding chain
-  node-go p next k f w x q z = rw (node-is, ← e, f, x, q, next_past deck 0 p (fits_on deck l p f w)) (go n z)
-    where
-      go : (n : ℕ) → (n ≡ 0 → ⊥) → each (λ d. step_of (read_node deck pool (n - 1) d)) (kids_of (record_at deck p)) (past deck p) ≡ below deck pool n p
-      go zero z = absurd (z refl)
-      go (suc n) z = let s : suc n - 1 ≡ n = omega arith in rw s
+  pub node_go :
+      (m k : ℕ) (p d : Cursor) →
+      m + 1 ≡ n → lead_of deck pool (length deck) 0 c ≡ On p → p.at + size_of (kind_at deck p) ≤ length deck → k ≡ kids_of (record_at deck p) → d ≡ next_of deck p →
+      children deck pool m k d ≡ step_of (read_node deck pool n c)
+  unfolding chain children
+  node_go m k p d h e w i j = rw (node-is, e, ← h, add-one, i, j, next_past deck 0 p w)
+
+pub ruleset node_steps = (children_done, children_stop, children_more, node_stop, node_deep, node_go)
 
 -- ---- the trees of a deck
 
-tally-cons : (k : ℕ) (x : Node) (r : Read (List Node)) → tally (k + 1) r ≡ tally k (bind r (λ xs d. got (x ∷ xs) d))
+tally-cons : (k : ℕ) (x : Node) (r : Read (List Node)) → tally k (bind r (λ xs d. got (x ∷ xs) d)) ≡ tally (k + 1) r
 unfolding tally bind
 tally-cons k x (fault n p) = refl
-tally-cons k x (got xs d) = ap verdict.Good (let z = length xs in omega arith)
+tally-cons k x (got xs d) = ap Good (let z = length xs in omega arith)
 
-deep : (deck pool : Bytes) (c : Cursor) → step_of (read_node deck pool 64 c) ≡ step_of (read_node deck pool deepest c)
-unfolding deepest
-deep deck pool c = refl
-
-verdict-is : (r : Read (List Node)) → tally 0 r ≡ verdict_of r
-unfolding tally verdict_of
-verdict-is (fault n p) = refl
-verdict-is (got ts d) = ap verdict.Good (omega arith)
-
-module _ (deck pool : Bytes) (k : ℕ) (c : Cursor) where
-  pub trees-done : (n : ℕ) → n ≡ 0 → verdict.Good k ≡ tally k (read_trees deck pool n c)
+module _ (deck pool : Bytes) (k n : ℕ) (c : Cursor) where
+  pub trees_done : n ≡ 0 → tally k (read_trees deck pool n c) ≡ Good k
   unfolding read_trees tally
-  trees-done n e = rw e (ap verdict.Good (omega arith))
+  trees_done e = rw e (ap Good (omega arith))
 
-  pub trees-end : (n : ℕ) → length deck ≤ c.at → verdict.Good k ≡ tally k (read_trees deck pool n c)
+  pub trees_end : length deck ≤ c.at → tally k (read_trees deck pool n c) ≡ Good k
   unfolding read_trees tally
-  trees-end zero h = ap verdict.Good (omega arith)
-  trees-end (suc n) h = rw (le-leb _ _ h) (ap verdict.Good (omega arith))
-
-  pub trees-stop : (n : ℕ) (s : Step) (a b : ℕ) → 0 < n → c.at < length deck → s ≡ step_of (read_node deck pool 64 c) → s ≡ step.Refused a b → refused_of s ≡ tally k (read_trees deck pool n c)
-  unfolding read_trees bind step_of tally refused_of
-  trees-stop zero s a b h l e f = absurd (omega arith)
-  trees-stop (suc n) s a b h l e f = rw (lt-leb _ _ l, f) (go (read_node deck pool deepest c) (sym f ∙ e ∙ deep deck pool c))
+  trees_end h = go n
     where
-      go : (r : Read Node) → step.Refused a b ≡ step_of r → refused_of (step.Refused a b) ≡ tally k (bind r (λ x d. bind (read_trees deck pool n d) (λ xs i. got (x ∷ xs) i)))
-      go (fault x y) q = let o : x ≡ a = cc in let u : y ≡ b = cc in rw (o, u)
-      go (got x i) q = let o : ◌≡◌ {A = ℕ} 0 1 = cc in absurd (omega arith)
+      go : (n : ℕ) → tally k (read_trees deck pool n c) ≡ Good k
+      go zero = ap Good (omega arith)
+      go (suc n) = rw (le-leb _ _ h) (ap Good (omega arith))
 
-  pub trees-more :
-      (n : ℕ) (s : Step) (j : Cursor) → 0 < n → c.at < length deck → s ≡ step_of (read_node deck pool 64 c) → s ≡ step.On j →
-      tally (k + 1) (read_trees deck pool (n - 1) j) ≡ tally k (read_trees deck pool n c)
-  unfolding read_trees bind step_of
-  trees-more zero s j h l e f = absurd (omega arith)
-  trees-more (suc n) s j h l e f = let z : suc n - 1 ≡ n = omega arith in rw (z, lt-leb _ _ l) (go (read_node deck pool deepest c) (sym f ∙ e ∙ deep deck pool c))
+  pub trees_stop : (a b : ℕ) → 0 < n → c.at < length deck → step_of (read_node deck pool 64 c) ≡ Refused a b → tally k (read_trees deck pool n c) ≡ Rejected a b
+  unfolding read_trees deepest bind step_of tally
+  trees_stop a b h l e = let p : n - 1 + 1 ≡ n = omega arith in rw (← p, add-one, lt-leb _ _ l) (go (n - 1) (read_node deck pool 64 c) e)
     where
-      go : (r : Read Node) → step.On j ≡ step_of r → tally (k + 1) (read_trees deck pool n j) ≡ tally k (bind r (λ x i. bind (read_trees deck pool n i) (λ xs d. got (x ∷ xs) d)))
-      go (fault a b) q = let o : ◌≡◌ {A = ℕ} 0 1 = cc in absurd (omega arith)
-      go (got x i) q = let o : j ≡ i = cc in rw o (tally-cons k x (read_trees deck pool n i))
+      go : (m : ℕ) (r : Read Node) → step_of r ≡ Refused a b → tally k (bind r (λ x d. bind (read_trees deck pool m d) (λ xs i. got (x ∷ xs) i))) ≡ Rejected a b
+      go m (fault x y) q = let o : x ≡ a = cc in let u : y ≡ b = cc in rw (o, u)
+      go m (got x i) q = cc
 
-pub deck-is : (deck pool : Bytes) → tally 0 (read_trees deck pool (length deck) (record { at = 0 })) ≡ verdict_of (read_deck deck pool)
-unfolding read_deck
-deck-is deck pool = verdict-is _
+  pub trees_more :
+      (m : ℕ) (j : Cursor) → m + 1 ≡ n → c.at < length deck → step_of (read_node deck pool 64 c) ≡ On j →
+      tally k (read_trees deck pool n c) ≡ tally (k + 1) (read_trees deck pool m j)
+  unfolding read_trees deepest bind step_of
+  trees_more m j h l e = rw (← h, add-one m, lt-leb _ _ l) (go (read_node deck pool 64 c) e)
+    where
+      go : (r : Read Node) → step_of r ≡ On j → tally k (bind r (λ x i. bind (read_trees deck pool m i) (λ xs d. got (x ∷ xs) d))) ≡ tally (k + 1) (read_trees deck pool m j)
+      go (fault a b) q = cc
+      go (got x i) q = let o : i ≡ j = cc in rw o (tally-cons k x (read_trees deck pool m j))
+
+pub deck_is : (deck pool : Bytes) → verdict_of (read_deck deck pool) ≡ tally 0 (read_trees deck pool (length deck) (record { at = 0 }))
+unfolding read_deck tally verdict_of
+deck_is deck pool = go (read_trees deck pool (length deck) (record { at = 0 }))
+  where
+    go : (r : Read (List Node)) → verdict_of r ≡ tally 0 r
+    go (fault n p) = refl
+    go (got ts d) = ap Good (omega arith)
+
+pub ruleset tree_steps = (trees_done, trees_end, trees_stop, trees_more, deck_is)

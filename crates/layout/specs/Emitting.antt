@@ -13,7 +13,7 @@ use Rattle.pen.specs.Draws.{Draws}
 use Rattle.atoms.specs.Atoms.{on}
 use Rattle.joints.specs.declared.Manner.{Manner}
 use Rattle.joints.specs.declared.Manner.TheVariants.{Value}
-use Rattle.joints.specs.Line.{rank_of, dressed, key_by, ending, line_of}
+use Rattle.joints.specs.Line.{dressed, key_by, ending, line_of}
 use Rattle.flow.specs.Ready.{Emits}
 
 module _ {s : Settings} {st : ℕ} {z r : Cursor} {l : ℕ} where
@@ -41,5 +41,5 @@ calm-line s m i f k n e h = rw (e, h)
 
 -- a value, to the end of the line
 pub line-value : (s : Settings) (f k : Bool) (i p : ℕ) (a : Kept) (b : Brought) (t : Kind) → line_of s f k Value i (node p a b t) ≡ inlined p a b (content s f k i (node p a b t))
-unfolding line_of dressed key_by ending rank_of inlined
+unfolding line_of dressed key_by ending inlined
 line-value s f k i p a b t = refl

@@ -10,7 +10,7 @@ use Rattle.definition.specs.Walk.{below_introducer, value_of, bare, content}
 use Rattle.definition.specs.declared.Cursor.{Cursor}
 use Rattle.definition.specs.declared.Lines.{Lines}
 use Rattle.definition.specs.declared.Settings.{Settings}
-use Rattle.node.specs.declared.Remark.{Remark}
+use Rattle.node.specs.Head.{Maybe}
 use Rattle.node.specs.Total.{kept_of, brought_of}
 use Rattle.pen.specs.Pen.{Pen}
 use Rattle.scripts.specs.Keep.{flow-of, key_of}
@@ -55,7 +55,7 @@ module _ (s : Settings) (deck pool : Bytes) where
   bare-end (body.Sequence g) c e = absurd (true≢false (sym e))
   bare-end (body.Mapping g) c e = absurd (true≢false (sym e))
 
-  empty_of : (l : Lines) (m : Remark) (b : Body) → bare_in s pool l m b ≡ true → empty_in pool b ≡ true
+  empty_of : (l : Lines) (m : Maybe) (b : Body) → bare_in s pool l m b ≡ true → empty_in pool b ≡ true
   unfolding bare_in
   empty_of l m b e = and_left _ _ (and_left _ _ e)
 

@@ -1,8 +1,6 @@
 // Tests of characters, of UTF-8 and of texts, and decks through the judge.
 ghost use Rattle.std.specs.Prelude.{◌≤◌, length};
 
-use judge::Verdict;
-
 pub fn answer(row: &[u8], t: &[u8]) -> bool
     requires { length t.now ≤ 65536 }
 {
@@ -16,18 +14,11 @@ pub fn answer(row: &[u8], t: &[u8]) -> bool
     }
 }
 
-// The row has this refusal and place; no refusal is 0, and has the number of documents in the place.
-fn same(row: &[u8], number: usize, place: usize) -> bool {
-    if number != deck::word(row, 2) {
-        return false;
-    }
-    place == deck::word(row, 4)
-}
-
-// The verdict on a deck is the one that the row has.
+// The verdict on a deck is the one that the row has: no refusal is 0, and has the number of documents in the place.
 pub fn judged(row: &[u8], deck: &[u8], pool: &[u8]) -> bool {
-    match judge::judge(deck, pool) {
-        Verdict::Good { documents } => same(row, 0, documents),
-        Verdict::Refused { number, place } => same(row, number, place),
-    }
+    let (number, place) = match judge::judge(deck, pool) {
+        Ok(documents) => (0, documents),
+        Err(refusal) => (refusal.fault.number(), refusal.place),
+    };
+    number == deck::word(row, 2) && place == deck::word(row, 4)
 }

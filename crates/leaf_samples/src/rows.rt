@@ -1,5 +1,5 @@
 // The rows of a list, one after another. A list is any bytes: what lies past its end reads as 0, and a row that is cut off ends the run.
-ghost use Rattle.std.specs.Prelude.{◌≤◌, length, IfOk};
+ghost use Rattle.std.specs.Prelude.{◌≤◌, length};
 
 use std::io;
 use std::io::Write;
@@ -9,12 +9,10 @@ const HEAD: usize = 20;
 
 // The line of a sample.
 fn say(rt: &HostRuntime, name: &[u8], good: bool) -> io::Result<()> {
+    let end: &[u8] = if good { b": ok\n" } else { b": DIFFERS\n" };
     let mut out = rt.stdout();
     out.write_all(name)?;
-    if good {
-        return out.write_all(b": ok\n");
-    }
-    out.write_all(b": DIFFERS\n")
+    out.write_all(end)
 }
 
 // The text comes out as the row has it.
@@ -29,36 +27,30 @@ fn holds(row: &[u8], t: &[u8], note: &[u8], want: &[u8]) -> bool
     }
 }
 
-// Runs the row that a slice begins with. The answer is where the row ends, or 0 if it is cut off.
-fn sample(rt: &HostRuntime, row: &[u8]) -> io::Result<usize>
-    ensures { IfOk result (λ n. n ≤ length row.now) }
-{
-    let text = HEAD + deck::word(row, 12);
-    let note = text + deck::word(row, 14);
-    let want = note + deck::word(row, 16);
-    let end = want + deck::word(row, 18);
-    if end > row.len() {
-        return Ok(0);
+// Runs the row that a list begins with. The answer is the list after it, or none if it is cut off.
+fn sample<'a>(rt: &HostRuntime, rows: &'a [u8]) -> io::Result<Option<&'a [u8]>> {
+    let text = HEAD + deck::word(rows, 12);
+    let note = text + deck::word(rows, 14);
+    let want = note + deck::word(rows, 16);
+    let end = want + deck::word(rows, 18);
+    if end > rows.len() {
+        return Ok(None);
     }
-    let good = holds(row, &row[text..note], &row[note..want], &row[want..end]);
-    say(rt, &row[HEAD..text], good)?;
-    Ok(end)
+    let good = holds(rows, &rows[text..note], &rows[note..want], &rows[want..end]);
+    say(rt, &rows[HEAD..text], good)?;
+    Ok(Some(&rows[end..]))
 }
 
 // Runs as many rows as the list says it has. The answer is whether it ends where the last one ends.
 pub fn run(rt: &HostRuntime, list: &[u8]) -> io::Result<bool> {
-    if list.len() < 2 {
-        return Ok(false);
+    let Some(mut rows) = list.get(2..) else {
+        return Ok(false)
+    };
+    for _ in 0..deck::word(list, 0) {
+        let Some(rest) = sample(rt, rows)? else {
+            return Ok(false)
+        };
+        rows = rest;
     }
-    let mut at: usize = 2;
-    let mut left = deck::word(list, 0);
-    while left > 0 {
-        let size = sample(rt, &list[at..])?;
-        if size == 0 {
-            return Ok(false);
-        }
-        at += size;
-        left -= 1;
-    }
-    Ok(at == list.len())
+    Ok(rows.is_empty())
 }

@@ -6,7 +6,6 @@ ghost use Rattle.pen.specs.Pen.{fields};
 use definition::{NullStyle, Settings, Style};
 use pen::Writer;
 use quoted::Fold;
-use terms::Terms;
 
 // The numbers of a row. A style may be a marker, or the place of a first comment; an indent, the spaces before a comment; a width, the place of a
 // comment that follows.
@@ -38,19 +37,14 @@ fn numbers_of(row: &[u8]) -> Numbers
 }
 
 // Plain settings but for the width and the quotes.
-fn plain_but(width: usize, single_quotes: bool) -> Terms
+fn plain_but(width: usize, single_quotes: bool) -> Settings
     requires { width < 65536 }
 {
-    let settings = Settings {
-        null_style: NullStyle::Null,
-        indent_sequences: false,
-        explicit_end: false,
-        indent: 0,
-        indentless: false,
+    Settings {
         single_quotes,
         width,
-    };
-    terms::terms_of(settings)
+        ..Settings::from(NullStyle::Null)
+    }
 }
 
 // A writer in an empty output that stands at a column. Columns are kept under any width but 0.
@@ -58,19 +52,7 @@ fn fresh(column: usize) -> Writer
     requires { column < 65536 }
     ensures { (fields result).column ≡ column }
 {
-    let w = pen::fresh_writer(plain_but(1, false));
-    w.at_column(column)
-}
-
-// A style by its number in a deck.
-fn style_of(n: usize) -> Style {
-    match n {
-        0 => Style::Plain,
-        1 => Style::Single,
-        2 => Style::Double,
-        3 => Style::Literal,
-        _ => Style::Folded,
-    }
+    pen::fresh_writer(&plain_but(1, false)).at_column(column)
 }
 
 // A body folded: it begins at the column, and later lines at the indent.
@@ -89,15 +71,14 @@ fn scalar(w: Writer, out: &mut [u8], t: &[u8], n: Numbers) -> Writer
     requires { (length t.now ≤ 65536) × (length out.old < 2 ^ 21) × (n.width < 65536) }
 {
     let s = plain_but(n.width, n.indent > 0);
-    scalar::put_scalar(w, out, s, n.column > 0, n.mark, t, style_of(n.style), 2)
+    scalar::put_scalar(w, out, &s, n.column > 0, n.mark, t, Style::from(n.style), 2)
 }
 
 // The first step of a line: the header of a block scalar, a text, a raw text, or an inline comment.
 fn line(w: Writer, out: &mut [u8], t: &[u8], n: Numbers) -> Writer
     requires { (length out.old < 2 ^ 21) × (n.style < 256) }
 {
-    let kind = n.kind;
-    match kind {
+    match n.kind {
         4 => blocks::put_header(w, out, t, n.style as u8),
         5 => w.text(out, t),
         6 => w.replay(out, t),
@@ -109,12 +90,11 @@ fn line(w: Writer, out: &mut [u8], t: &[u8], n: Numbers) -> Writer
 fn put(w: Writer, out: &mut [u8], t: &[u8], n: Numbers) -> Writer
     requires { (length t.now ≤ 65536) × (length out.old < 2 ^ 21) × (n.style < 256) × (n.column < 65536) × (n.indent < 65536) × (n.width < 65536) }
 {
-    let kind = n.kind;
-    match kind {
+    match n.kind {
         0 => quoted::put_body(w, out, t, n.mark),
         1 => folded(w, out, t, n),
         2 => scalar(w, out, t, n),
-        3 => scalar::put_separator(w, out, plain_but(n.width, false), n.mark, n.indent),
+        3 => scalar::put_separator(w, out, &plain_but(n.width, false), n.mark, n.indent),
         _ => line(w, out, t, n),
     }
 }
@@ -141,14 +121,6 @@ fn steps(row: &[u8], t: &[u8], note: &[u8], out: &mut [u8]) -> Writer
     follow(n.third, w, out, note, n)
 }
 
-// The output begins with these bytes, `n` in number.
-fn begins(out: &[u8], n: usize, want: &[u8]) -> bool {
-    if n > out.len() {
-        return false;
-    }
-    check::same(&out[..n], want)
-}
-
 // The bytes that are written are those that the row wants.
 pub fn holds(row: &[u8], t: &[u8], note: &[u8], want: &[u8]) -> bool
     requires { length t.now ≤ 65536 }
@@ -156,5 +128,5 @@ pub fn holds(row: &[u8], t: &[u8], note: &[u8], want: &[u8]) -> bool
     let mut out = [0u8; 256];
     let w = steps(row, t, note, &mut out);
     let end = w.finish(&mut out);
-    begins(&out, end.len(), want)
+    out.get(..end.len()) == Some(want)
 }

@@ -1,12 +1,11 @@
 -- The tests of a text, carried from place to place.
-use Prim.Native.Nat.{ℕ, suc, ◌+◌, ◌<◌}
-use native.Mathlib.Omega.{arith}
-use native.Mathlib.Numerals.{add-one}
-use mathlib.Core.Path.{◌≡◌, refl, sym, ap, ◌∙◌}
+use Prim.Native.Nat.{ℕ}
+use mathlib.Core.Path.{◌≡◌, refl, sym, ◌∙◌}
 use mathlib.Core.Bool.{Bool, true, false, not, ◌&&◌, ◌||◌}
 use mathlib.Core.List.{[], ◌∷◌}
-use lib.ListN.{length, get_or, drop}
-use lib.Seq.{drop-cons, get_or-drop}
+use Rattle.std.specs.Prelude.{Some, None, cond}
+use Rattle.std.specs.List.{find, list_any}
+use borrow.Author.Tests.{eq-eqb, ne_eqb, eqb-true, eqb-false}
 use lib.Dec.{eqb}
 use Rattle.definition.specs.Base.{Bytes, when◌then◌else◌, any, has}
 use Rattle.definition.specs.Ascii.{TAB, LF, SP}
@@ -15,41 +14,54 @@ use Rattle.definition.specs.Block.{leads_blank, use_literal_block}
 use Rattle.laws.specs.Places.{any_at, some-unfit}
 use Rattle.literal.specs.Unfit.{unfit_at}
 
-module _ (s : Bytes) (i : ℕ) (h : i < length s) where
-  module _ (f : ℕ → ℕ → ℕ → Bool) (g : any_at f (drop i s) ≡ any_at f s) where
-    place : any_at f (drop i s) ≡ (when f (get_or s i 0) (get_or s (i + 1) 0) (get_or s (i + 2) 0) then true else any_at f (drop (i + 1) s))
-    unfolding any_at
-    place =
-        let x : get_or (drop (suc i) s) 0 0 ≡ get_or s (i + 1) 0 = get_or-drop (suc i) s 0 0 ∙ ap (λ (n : ℕ). get_or s n 0) (omega arith) in
-        let y : get_or (drop (suc i) s) 1 0 ≡ get_or s (i + 2) 0 = get_or-drop (suc i) s 1 0 ∙ ap (λ (n : ℕ). get_or s n 0) (omega arith) in
-        rw (drop-cons s i 0 h, x, y, add-one)
+eqb-back : (a b : ℕ) → eqb a b ≡ eqb b a
+eqb-back a b = go (eqb b a) refl
+  where
+    go : (t : Bool) → eqb b a ≡ t → eqb a b ≡ t
+    go true e = eq-eqb _ _ (sym (eqb-true _ _ e))
+    go false e = ne_eqb _ _ (λ f. eqb-false _ _ e (sym f))
 
-    pub found : f (get_or s i 0) (get_or s (i + 1) 0) (get_or s (i + 2) 0) ≡ true → any_at f s ≡ true
-    found e = sym g ∙ place ∙ rw e
+pub has_by : (s : Bytes) → has LF s ≡ list_any (λ y. eqb y 10) s
+unfolding has any
+has_by [] = refl
+has_by (a ∷ s) = rw (has_by s, eqb-back 10 a) (go (eqb a 10))
+  where
+    go : (t : Bool) → (when t then true else list_any (λ y. eqb y 10) s) ≡ (t || list_any (λ y. eqb y 10) s)
+    go true = refl
+    go false = refl
 
-    pub passed : f (get_or s i 0) (get_or s (i + 1) 0) (get_or s (i + 2) 0) ≡ false → any_at f (drop (i + 1) s) ≡ any_at f s
-    passed e = sym (rw e at place) ∙ g
+-- a text whose first byte that is no line break is known
+leads : (b : ℕ) (s : Bytes) → find (λ b. not (eqb b LF)) s ≡ Some b → leads_blank s ≡ (eqb b SP || eqb b TAB)
+unfolding leads_blank
+leads b [] e = cc
+leads b (a ∷ s) e = go (eqb a LF) (leads b s) e
+  where
+    go :
+        (t : Bool) → (find (λ b. not (eqb b LF)) s ≡ Some b → leads_blank s ≡ (eqb b SP || eqb b TAB)) →
+        cond (not t) (Some a) (find (λ b. not (eqb b LF)) s) ≡ Some b → (when t then leads_blank s else (eqb a SP || eqb a TAB)) ≡ (eqb b SP || eqb b TAB)
+    go true f e = f e
+    go false f e = let g : a ≡ b = cc in rw g
 
-  -- a blank may lead, past line breaks
-  leads : leads_blank (drop i s) ≡ (when eqb (get_or s i 0) LF then leads_blank (drop (i + 1) s) else eqb (get_or s i 0) SP || eqb (get_or s i 0) TAB)
-  unfolding leads_blank
-  leads = rw (drop-cons s i 0 h, add-one)
+module _ (b : ℕ) (s : Bytes) (first : find (λ b. not (eqb b LF)) s ≡ Some b) where
+  pub leads_space : b ≡ 32 → leads_blank s ≡ true
+  leads_space e = leads b s first ∙ rw e
 
-  module _ (g : leads_blank (drop i s) ≡ leads_blank s) where
-    pub led : eqb (get_or s i 0) LF ≡ false → leads_blank s ≡ (eqb (get_or s i 0) SP || eqb (get_or s i 0) TAB)
-    led e = sym g ∙ leads ∙ rw e
+  pub leads_tab : b ≡ 9 → leads_blank s ≡ true
+  leads_tab e = leads b s first ∙ rw e
 
-    pub break-passed : eqb (get_or s i 0) LF ≡ true → leads_blank (drop (i + 1) s) ≡ leads_blank s
-    break-passed e = sym (rw e at leads) ∙ g
+  pub leads_other : (b ≡ 32 → ⊥) → (b ≡ 9 → ⊥) → leads_blank s ≡ false
+  leads_other p q = leads b s first ∙ rw (ne_eqb b 32 p, ne_eqb b 9 q)
 
--- a byte alone is asked for
-abbrev pub is_break : ℕ → ℕ → ℕ → Bool
-is_break a b c = eqb LF a
-
-pub has-break : (s : Bytes) → has LF s ≡ any_at is_break s
-unfolding has any any_at
-has-break [] = refl
-has-break (a ∷ s) = rw (has-break s)
+pub leads_not : (s : Bytes) → find (λ b. not (eqb b LF)) s ≡ None → leads_blank s ≡ false
+unfolding leads_blank
+leads_not [] e = refl
+leads_not (a ∷ s) e = go (eqb a LF) (leads_not s) e
+  where
+    go :
+        (t : Bool) → (find (λ b. not (eqb b LF)) s ≡ None → leads_blank s ≡ false) →
+        cond (not t) (Some a) (find (λ b. not (eqb b LF)) s) ≡ None → (when t then leads_blank s else (eqb a SP || eqb a TAB)) ≡ false
+    go true f e = f e
+    go false f e = cc
 
 -- the three tests together
 pub together : (s : Bytes) → well_formed s ≡ true → use_literal_block s ≡ (has LF s && not (any_at unfit_at s) && not (leads_blank s))

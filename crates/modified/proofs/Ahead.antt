@@ -8,18 +8,15 @@ use Rattle.definition.specs.Base.{Bytes}
 use Rattle.definition.specs.Records.{record_at}
 use Rattle.definition.specs.Deck.{is_node}
 use Rattle.definition.specs.declared.Cursor.{Cursor}
-use Rattle.node.specs.Head.{no_lead, headed, head_at}
+use Rattle.node.specs.Head.{there, no_lead, headed, head_at}
 use Rattle.node.specs.Fuel.{head-own, own-further}
 use Rattle.spot.specs.Spot.{spot_of, spot_at}
-use Rattle.atoms.specs.Atoms.{on}
-use Rattle.choices.specs.Choices.{included_in}
 
 module _ (deck : Bytes) where
-  none-included : included_in no_lead.origin ≡ true → ⊥
-  unfolding included_in on
+  none-included : there no_lead.origin ≡ true → ⊥
   none-included e = false≢true e
 
-  pub include-ahead : (c : Cursor) → included_in (spot_at deck c).lead.origin ≡ true → c.at < (spot_at deck c).place
+  pub include-ahead : (c : Cursor) → there (spot_at deck c).lead.origin ≡ true → c.at < (spot_at deck c).place
   unfolding spot_at spot_of head_at headed
   include-ahead c e = go (is_node (record_at deck c)) refl
     where

@@ -1,5 +1,5 @@
 -- The changed files of the nodes that stand one after another in a deck: each node's own, and then those of its children.
-use Rattle.std.specs.Prelude.{◌≡◌, Bool, true, false, not, eqb, length}
+use Rattle.std.specs.Prelude.{◌≡◌, Bool, true, false, length}
 use Rattle.std.proofs.Math.Path.{refl, ap}
 use Rattle.std.proofs.Common.{◌∙◌, le-leb}
 use Prim.Native.Nat.{ℕ, zero, suc, ◌+◌, ◌<◌, ◌≤◌}
@@ -13,18 +13,16 @@ use Rattle.definition.specs.Deck.{file_of, source_of}
 use Rattle.definition.specs.Document.{emit_file}
 use Rattle.definition.specs.Change.{Boundary, Written, written_of, with_id, own_boundary, boundaries, boundaries_in, boundaries_items, boundaries_pairs, boundaries_all, changed, local_modified}
 use Rattle.definition.specs.declared.Cursor.{Cursor}
-use Rattle.definition.specs.declared.File.{File}
-use Rattle.definition.specs.declared.File.TheVariants.{Absent, Id}
+use Rattle.definition.specs.Records.{File}
+use Rattle.std.specs.Prelude.{None, Some}
 use Rattle.deck.specs.Kids.{twice}
-use Rattle.node.specs.declared.Origin.{Origin}
+use Rattle.node.specs.Head.{Maybe}
 use Rattle.node.specs.Fuel.{nexts}
 use Rattle.node.specs.Total.{kept_of, origin_of, items_from, pairs_from, tree_at, trees_from, trees_of}
 use Rattle.spot.specs.declared.Body.{Body}
 use Rattle.spot.specs.declared.Body.TheVariants.{Null, Scalar, Alias, Sequence, Mapping}
 use Rattle.spot.specs.declared.Spot.{Spot}
 use Rattle.spot.specs.Spot.{spot_at, kind_of, node_in, tree-value}
-use Rattle.atoms.specs.Atoms.{on}
-use Rattle.choices.specs.Choices.{included_in}
 use Rattle.modified.specs.declared.Own.{Own}
 use Rattle.modified.specs.declared.Counted.{Counted}
 use Rattle.modified.specs.Local.{kids_in, After}
@@ -32,39 +30,39 @@ use Rattle.modified.specs.Local.{kids_in, After}
 -- ---- a node's own file
 
 unfoldable pub id_in : Option ℕ → File
-id_in none = Absent
-id_in (some i) = Id i
+id_in none = None
+id_in (some i) = Some i
 
 unfoldable pub file_in : Option Source → File
-file_in none = Absent
+file_in none = None
 file_in (some r) = id_in r.file
 
 -- the id of the file that a node is, if it is one and changed
 unfoldable pub changed_file : Node → File
-changed_file n = when local_modified n then file_in (kept n).source else Absent
+changed_file n = when local_modified n then file_in (kept n).source else None
 
 unfoldable pub file_at : Bytes → Bytes → Cursor → File
 file_at deck pool c = changed_file (tree_at deck pool c).value
 
 -- what is handed back of it
 unfoldable pub entry : File → Node → List Written
-entry Absent n = []
-entry (Id i) n = record { id = i; bytes = emit_file n } ∷ []
+entry None n = []
+entry (Some i) n = record { id = i; bytes = emit_file n } ∷ []
 
-own-id : (n : Node) (f : Option ℕ) (bs : List Boundary) → changed (with_id f n ++ bs) ≡ entry (when local_modified n then id_in f else Absent) n ++ changed bs
+own-id : (n : Node) (f : Option ℕ) (bs : List Boundary) → changed (with_id f n ++ bs) ≡ entry (when local_modified n then id_in f else None) n ++ changed bs
 unfolding with_id changed written_of entry id_in
 own-id n none bs = go (local_modified n)
   where
-    go : (b : Bool) → changed bs ≡ entry (when b then Absent else Absent) n ++ changed bs
+    go : (b : Bool) → changed bs ≡ entry (when b then None else None) n ++ changed bs
     go true = refl
     go false = refl
 own-id n (some i) bs = go (local_modified n)
   where
-    go : (b : Bool) → (when b then record { id = i; bytes = emit_file n } ∷ changed bs else changed bs) ≡ entry (when b then Id i else Absent) n ++ changed bs
+    go : (b : Bool) → (when b then record { id = i; bytes = emit_file n } ∷ changed bs else changed bs) ≡ entry (when b then Some i else None) n ++ changed bs
     go true = refl
     go false = refl
 
-own-source : (n : Node) (r : Option Source) (bs : List Boundary) → changed (own_boundary r n ++ bs) ≡ entry (when local_modified n then file_in r else Absent) n ++ changed bs
+own-source : (n : Node) (r : Option Source) (bs : List Boundary) → changed (own_boundary r n ++ bs) ≡ entry (when local_modified n then file_in r else None) n ++ changed bs
 unfolding own_boundary file_in
 own-source n none bs = unfold with_id id_in in own-id n none bs
 own-source n (some r) bs = own-id n r.file bs
@@ -75,26 +73,24 @@ unfolding changed_file
 own-changed n bs = own-source n (kept n).source bs
 
 -- the file of an include that may be absent
-unfoldable pub file_named : Bytes → Origin → File
-file_named deck o = when included_in o then (include_at deck o.at).file else Absent
+unfoldable pub file_named : Bytes → Maybe → File
+file_named deck None = None
+file_named deck (Some c) = (include_at deck c.at).file
 
 id-is : (f : File) → id_in (file_of f) ≡ f
 unfolding id_in file_of
-id-is Absent = refl
-id-is (Id i) = refl
+id-is None = refl
+id-is (Some i) = refl
 
-named-is : (deck pool : Bytes) (o : Origin) → file_in (origin_of deck pool o) ≡ file_named deck o
-unfolding file_named included_in on origin_of source_of file_in
-named-is deck pool o = go (eqb o.at 0)
-  where
-    go : (b : Bool) → file_in (when b then none else some (source_of pool (include_at deck o.at))) ≡ (when not b then (include_at deck o.at).file else Absent)
-    go true = refl
-    go false = id-is (include_at deck o.at).file
+named-is : (deck pool : Bytes) (o : Maybe) → file_in (origin_of deck pool o) ≡ file_named deck o
+unfolding file_named origin_of source_of file_in
+named-is deck pool None = refl
+named-is deck pool (Some c) = id-is (include_at deck c.at).file
 
 -- the file of the node at a cursor, by its head
 pub file-is :
     (deck pool : Bytes) (c : Cursor) → c.at ≤ length deck →
-    file_at deck pool c ≡ (when local_modified (tree_at deck pool c).value then file_named deck (spot_at deck c).lead.origin else Absent)
+    file_at deck pool c ≡ (when local_modified (tree_at deck pool c).value then file_named deck (spot_at deck c).lead.origin else None)
 unfolding file_at changed_file node_in kept kept_of
 file-is deck pool c k = rw (tree-value deck pool c k, named-is deck pool (spot_at deck c).lead.origin)
 
@@ -175,19 +171,15 @@ module _ (deck pool : Bytes) where
 -- ---- how many
 
 unfoldable pub tally : File → ℕ
-tally Absent = 0
-tally (Id i) = 1
+tally None = 0
+tally (Some i) = 1
 
 pub entry_length : (f : File) (n : Node) → length (entry f n) ≡ tally f
 unfolding entry tally
-entry_length Absent n = refl
-entry_length (Id i) n = refl
+entry_length None n = refl
+entry_length (Some i) n = refl
 
 -- ---- what is promised, with any pool
-
--- a file if the node at a cursor changed
-pub record IfChanged (deck : Bytes) (c : Cursor) (f r : File) : Type 0 where
-  pub told : (pool : Bytes) → r ≡ (when local_modified (tree_at deck pool c).value then f else Absent)
 
 -- the id of the file that the node at a cursor is, if it is one and changed
 pub record Files (deck : Bytes) (c : Cursor) (r : File) : Type 0 where

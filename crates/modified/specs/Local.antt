@@ -1,6 +1,6 @@
 -- The changed test over the nodes that stand one after another in a deck. An included item or value is not looked into: it is a file of its
 -- own. An included key is looked into.
-use Rattle.std.specs.Prelude.{◌≡◌, Bool, not, ◌&&◌, ◌||◌, length}
+use Rattle.std.specs.Prelude.{◌≡◌, Bool, not, ◌&&◌, ◌||◌, length, Option, None, Some, is_some, IfSome}
 use Rattle.std.proofs.Math.Path.{refl, ap}
 use Rattle.std.proofs.Common.{◌∙◌, arith}
 use Prim.Native.Nat.{ℕ, zero, suc, ◌<◌, ◌≤◌}
@@ -20,18 +20,10 @@ use Rattle.node.specs.Fuel.{nexts, head-at-onward, tree-next}
 use Rattle.spot.specs.declared.Body.{Body}
 use Rattle.spot.specs.declared.Body.TheVariants.{Null, Scalar, Alias, Sequence, Mapping}
 use Rattle.spot.specs.declared.Spot.{Spot}
-use Rattle.spot.specs.Spot.{body_of, spot_of, spot_at, kind_of, node_in}
+use Rattle.spot.specs.Spot.{pairs_in, body_of, spot_of, spot_at, kind_of, node_in}
 use Rattle.modified.specs.declared.Start.{Start}
-use Rattle.modified.specs.declared.Looked.{Looked}
 
 -- ---- the children of a node
-
-unfoldable pub pairs_in : Body → Bool
-pairs_in Null = false
-pairs_in (Scalar w) = false
-pairs_in (Alias t) = false
-pairs_in (Sequence g) = false
-pairs_in (Mapping g) = true
 
 -- a pair is two nodes
 unfoldable pub kids_in : Body → ℕ
@@ -128,18 +120,30 @@ module _ (deck pool : Bytes) where
 
 -- ---- what is promised, with any pool
 
--- what a node says before its children do, and the children that are left to look at
-pub record Starts (deck : Bytes) (c : Cursor) (key : Bool) (s : Start) : Type 0 where
-  pub told : (pool : Bytes) → seen key (tree_at deck pool c).value ≡ (s.modified || some_seen deck pool s.pairs s.pairs s.kids s.next)
-  pub ends : (pool : Bytes) → s.modified ≡ false → (tree_at deck pool c).next ≡ nexts (λ d. (tree_at deck pool d).next) s.kids s.next
+-- the children that say whether a node changed, where its own mark does not say that it did
+unfoldable pub some_left : Bytes → Bytes → Option Start → Bool
+some_left deck pool None = true
+some_left deck pool (Some s) = some_seen deck pool s.pairs s.pairs s.kids s.next
+
+-- they make the node's end
+pub record Left (deck : Bytes) (c : Cursor) (s : Start) : Type 0 where
+  pub ends : (pool : Bytes) → (tree_at deck pool c).next ≡ nexts (λ d. (tree_at deck pool d).next) s.kids s.next
   pub after : After deck c s.kids s.next
 
--- the test of a node; where it ends is promised of a node that did not change
-pub record Looks (deck : Bytes) (c : Cursor) (key : Bool) (r : Looked) : Type 0 where
-  pub told : (pool : Bytes) → r.modified ≡ seen key (tree_at deck pool c).value
-  pub ends : (pool : Bytes) → r.modified ≡ false → r.next ≡ (tree_at deck pool c).next
-  pub onward : c.at ≤ r.next.at
-  pub within : r.next.at ≤ length deck
+pub record Starts (deck : Bytes) (c : Cursor) (key : Bool) (r : Option Start) : Type 0 where
+  pub told : (pool : Bytes) → seen key (tree_at deck pool c).value ≡ some_left deck pool r
+  pub left : IfSome r (Left deck c)
+
+-- where a node ends
+pub record Ended (deck : Bytes) (c e : Cursor) : Type 0 where
+  pub ends : (pool : Bytes) → e ≡ (tree_at deck pool c).next
+  pub onward : c.at ≤ e.at
+  pub within : e.at ≤ length deck
+
+-- the test of a node: where it ends if it did not change
+pub record Looks (deck : Bytes) (c : Cursor) (key : Bool) (r : Option Cursor) : Type 0 where
+  pub told : (pool : Bytes) → not (is_some r) ≡ seen key (tree_at deck pool c).value
+  pub ended : IfSome r (Ended deck c)
 
 -- `local_modified` of the node at a cursor
 pub record Changed (deck : Bytes) (c : Cursor) (r : Bool) : Type 0 where

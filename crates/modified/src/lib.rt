@@ -3,31 +3,20 @@
 #![tactic(auto)]
 
 ghost use Rattle.std.specs.Prelude.{◌≡◌, not, ◌&&◌, ◌<◌, ◌≤◌, length};
-ghost use Rattle.spot.specs.Good.{count_in};
-ghost use Rattle.spot.specs.Spot.{spot_at};
-ghost use Rattle.choices.specs.Choices.{included_in};
-ghost use Rattle.modified.specs.Local.{pairs_in, kids_in, turned, Starts, Looks, Changed};
-ghost use Rattle.modified.specs.Files.{file_named, IfChanged, Files, tally, Owns, Counts, CountsAll};
+ghost use Rattle.node.specs.Head.{there};
+ghost use Rattle.spot.specs.Spot.{count_in, spot_at};
+ghost use Rattle.modified.specs.Local.{kids_in, turned, Starts, Looks, Changed};
+ghost use Rattle.modified.specs.Files.{file_named, Files, Owns, Counts, CountsAll};
 
-use choices::is_included;
 use deck::is_marked;
-use definition::{Cursor, File};
-use node::Origin;
+use definition::Cursor;
 use spot::Body;
 
-// A node's own answer, and the children that are left to look at: pairs or items, how many nodes, and where the first one stands.
+// A node's children that are to be looked at: pairs or items, how many nodes, and where the first one stands.
 #[derive(Clone, Copy)]
 struct Start {
-    modified: bool,
     pairs: bool,
     kids: usize,
-    next: Cursor,
-}
-
-// Whether a node changed, and where it ends. The end is promised of a node that did not change.
-#[derive(Clone, Copy)]
-struct Looked {
-    modified: bool,
     next: Cursor,
 }
 
@@ -46,169 +35,104 @@ pub struct Counted {
     pub next: Cursor,
 }
 
-fn is_mapping(body: Body) -> bool
-    ensures { result ≡ pairs_in body }
-{
-    spot::case_of(body) == 4
-}
-
 // How many nodes are a node's children.
-fn kids(body: Body) -> usize
-    requires { count_in body < 65536 }
-    ensures { result ≡ kids_in body }
+fn kids(body: &Body) -> usize
+    requires { count_in body.now < 65536 }
+    ensures { result ≡ kids_in body.now }
 {
     match body {
-        Body::Null => 0,
-        Body::Scalar(_) => 0,
-        Body::Alias(_) => 0,
         Body::Sequence(g) => g.count,
         Body::Mapping(g) => 2 * g.count,
+        _ => 0,
     }
 }
 
 // The next child is a key.
+#[tactic(auto, unfolding(crate::specs::Local::turned))]
 fn turn(pairs: bool, key: bool) -> bool
     ensures { result ≡ turned pairs key }
 {
-    if pairs {
-        return !key;
-    }
-    false
+    pairs && !key
 }
 
 // An included node that is no key is a file of its own.
-fn is_passed(key: bool, origin: Origin) -> bool
-    ensures { result ≡ (not key && included_in origin) }
+fn is_passed(key: bool, origin: Option<Cursor>) -> bool
+    ensures { result ≡ (not key && there origin) }
 {
-    if key {
-        return false;
-    }
-    is_included(origin)
+    !key && origin.is_some()
 }
 
-// What a node says before its children do.
-fn begin(deck: &[u8], c: Cursor, key: bool) -> Start
-    requires { (c.at ≤ length deck.now) × (length deck.now ≤ 65536) }
+// The children that say whether a node changed. None: its own mark says that it did.
+fn begin(deck: &[u8], c: Cursor, key: bool) -> Option<Start>
+    requires { c.at ≤ length deck.now }
     ensures { Starts deck.now c key result }
 {
     let x = spot::spot_at(deck, c);
-    let lead = x.lead;
-    if is_passed(key, lead.origin) {
-        let end = node::subtree_end(deck, c);
-        return Start {
-            modified: false,
+    if is_passed(key, x.lead.origin) {
+        return Some(Start {
             pairs: false,
             kids: 0,
-            next: end,
-        };
+            next: node::subtree_end(deck, c),
+        });
     }
-    let lines = lead.lines;
-    if is_marked(lines.marks, 1) {
-        return Start {
-            modified: true,
-            pairs: false,
-            kids: 0,
-            next: c,
-        };
+    if is_marked(x.lead.lines.marks, 1) {
+        return None;
     }
-    let body = x.body;
-    let pairs = is_mapping(body);
-    let kids = kids(body);
-    let next = x.next;
-    Start {
-        modified: false,
-        pairs,
-        kids,
-        next,
-    }
+    Some(Start {
+        pairs: x.body.is_mapping(),
+        kids: kids(&x.body),
+        next: x.next,
+    })
 }
 
-// The changed test of a key, or of an item or a value. It ends at the first mark that it meets.
-fn look(deck: &[u8], c: Cursor, key: bool) -> Looked
-    requires { (c.at ≤ length deck.now) × (length deck.now ≤ 65536) }
+// The changed test of a key, or of an item or a value: where a node ends that did not change. None: it changed. It stops at the first mark
+// that it meets.
+fn look(deck: &[u8], c: Cursor, key: bool) -> Option<Cursor>
+    requires { c.at ≤ length deck.now }
     ensures { Looks deck.now c key result }
 {
-    let s = begin(deck, c, key);
-    let modified = s.modified;
-    let pairs = s.pairs;
-    let mut here = s.next;
-    let mut left = s.kids;
-    let mut key_here = pairs;
-    while left > 0 {
-        let child = look(deck, here, key_here);
-        if child.modified {
-            return child;
-        }
-        here = child.next;
-        key_here = turn(pairs, key_here);
-        left -= 1;
+    let start = begin(deck, c, key)?;
+    let mut here = start.next;
+    let mut key_here = start.pairs;
+    for _ in 0..start.kids {
+        here = look(deck, here, key_here)?;
+        key_here = turn(start.pairs, key_here);
     }
-    Looked {
-        modified,
-        next: here,
-    }
+    Some(here)
 }
 
 // `local_modified`
 pub fn local_modified(deck: &[u8], c: Cursor) -> bool
-    requires { (c.at ≤ length deck.now) × (length deck.now ≤ 65536) }
+    requires { c.at ≤ length deck.now }
     ensures { Changed deck.now c result }
 {
-    let r = look(deck, c, true);
-    r.modified
+    look(deck, c, true).is_none()
 }
 
 // The file of an include that may be absent.
-fn file_named(deck: &[u8], origin: Origin) -> File
+fn file_named(deck: &[u8], origin: Option<Cursor>) -> Option<usize>
     ensures { result ≡ file_named deck.now origin }
 {
-    if is_included(origin) {
-        let include = deck::include_in(deck, origin.at);
-        return include.file;
-    }
-    File::Absent
-}
-
-// A file if the node at a cursor changed.
-fn if_changed(deck: &[u8], c: Cursor, file: File) -> File
-    requires { (c.at ≤ length deck.now) × (length deck.now ≤ 65536) }
-    ensures { IfChanged deck.now c file result }
-{
-    if local_modified(deck, c) {
-        return file;
-    }
-    File::Absent
+    let include = deck::include_in(deck, origin?.at);
+    include.file
 }
 
 // The file of the node at a cursor, given the node's include.
-fn file_of(deck: &[u8], c: Cursor, origin: Origin) -> File
-    requires { (c.at ≤ length deck.now) × (length deck.now ≤ 65536) × (origin ≡ (spot_at deck.now c).lead.origin) }
+fn file_of(deck: &[u8], c: Cursor, origin: Option<Cursor>) -> Option<usize>
+    requires { (c.at ≤ length deck.now) × (origin ≡ (spot_at deck.now c).lead.origin) }
     ensures { Files deck.now c result }
 {
-    let file = file_named(deck, origin);
-    match file {
-        File::Absent => File::Absent,
-        File::Id(_) => if_changed(deck, c, file),
-    }
+    let id = file_named(deck, origin)?;
+    local_modified(deck, c).then_some(id)
 }
 
 // The id of the file that the node at a cursor is, if it is one and changed.
-pub fn file_at(deck: &[u8], c: Cursor) -> File
-    requires { (c.at ≤ length deck.now) × (length deck.now ≤ 65536) }
+pub fn file_at(deck: &[u8], c: Cursor) -> Option<usize>
+    requires { c.at ≤ length deck.now }
     ensures { Files deck.now c result }
 {
     let x = spot::spot_at(deck, c);
-    let lead = x.lead;
-    file_of(deck, c, lead.origin)
-}
-
-fn tally_of(file: File) -> usize
-    ensures { result ≡ tally file }
-{
-    match file {
-        File::Absent => 0,
-        File::Id(_) => 1,
-    }
+    file_of(deck, c, x.lead.origin)
 }
 
 // The changed files at a node.
@@ -217,13 +141,12 @@ fn count_own(deck: &[u8], c: Cursor) -> Own
     ensures { Owns deck.now c result }
 {
     let x = spot::spot_at(deck, c);
-    let lead = x.lead;
-    let file = file_of(deck, c, lead.origin);
-    let count = tally_of(file);
-    let body = x.body;
-    let kids = kids(body);
-    let next = x.next;
-    Own { count, kids, next }
+    let file = file_of(deck, c, x.lead.origin);
+    Own {
+        count: usize::from(file.is_some()),
+        kids: kids(&x.body),
+        next: x.next,
+    }
 }
 
 // How many changed files stand at and below a node.
@@ -234,12 +157,10 @@ pub fn count_changed(deck: &[u8], c: Cursor) -> Counted
     let own = count_own(deck, c);
     let mut count = own.count;
     let mut here = own.next;
-    let mut rest = own.kids;
-    while rest > 0 {
+    for _ in 0..own.kids {
         let child = count_changed(deck, here);
         count += child.count;
         here = child.next;
-        rest -= 1;
     }
     Counted { count, next: here }
 }
@@ -249,17 +170,15 @@ pub fn count_all(deck: &[u8]) -> usize
     requires { length deck.now ≤ 65536 }
     ensures { CountsAll deck.now result }
 {
-    let mut count: usize = 0;
+    let mut count = 0;
     let mut here = Cursor { at: 0 };
-    let mut left = deck.len();
-    while left > 0 {
+    for _ in 0..deck.len() {
         if deck.len() <= here.at {
             return count;
         }
         let below = count_changed(deck, here);
         count += below.count;
         here = below.next;
-        left -= 1;
     }
     count
 }

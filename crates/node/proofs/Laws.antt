@@ -5,7 +5,7 @@ use native.Mathlib.Omega.{arith}
 use mathlib.Core.Bool.{Bool, true, false}
 use lib.ListN.{length}
 use lib.Dec.{eqb}
-use borrow.Author.Tests.{eq-eqb, ne_eqb}
+use borrow.Author.Tests.{eq-eqb, ne_eqb, eqb-true, eqb-false}
 use Rattle.definition.specs.Base.{Bytes, when◌then◌else◌}
 use Rattle.definition.specs.Records.{kind_at, record_of, record_at}
 use Rattle.definition.specs.Deck.{is_node}
@@ -13,7 +13,7 @@ use Rattle.definition.specs.declared.Cursor.{Cursor}
 use Rattle.definition.specs.declared.Record.{Record}
 use Rattle.definition.specs.declared.Record.TheVariants as is
 use Rattle.deck.specs.Next.{next_of}
-use Rattle.deck.specs.Kids.{either, kids_of}
+use Rattle.deck.specs.Kids.{either, kids_of, of-kind}
 use Rattle.node.specs.declared.Run.{Run}
 use Rattle.node.specs.declared.Lead.{Lead}
 use Rattle.node.specs.declared.Front.{Front}
@@ -21,6 +21,13 @@ use Rattle.node.specs.Head.{onto, no_lead, add_to, Small, Head, front_of, headed
 use Rattle.node.specs.Comments.{is_comment, comment_from}
 use Rattle.node.specs.Total.{tree_at}
 use Rattle.node.specs.Fuel.{nexts, head-at-onward, place_same, place-within, tree-next}
+
+-- how many are left at the first turn, and one turn later
+pub first-left : (n : ℕ) → n - 0 ≡ n
+first-left n = omega arith
+
+pub next-left : (n k : ℕ) → n - (k + 1) ≡ n - k - 1
+next-left n k = omega arith
 
 -- ---- runs
 
@@ -135,6 +142,16 @@ module _ (deck : Bytes) (c : Cursor) (k : ℕ) (f : k ≡ kind_at deck c) where
     where
       no : (n : ℕ) (x y : Record) → is_comment x ≡ false → is_comment y ≡ false → is_comment (when eqb k n then x else y) ≡ false
       no n x y = either (λ (r : Record). is_comment r ≡ false) (eqb k n) {x = x} {y = y}
+
+  -- kinds 4, 5 and 6 are those of comments
+  pub comment-within : 4 ≤ k → k ≤ 6 → true ≡ is_comment (record_at deck c)
+  unfolding record_of is_comment
+  comment-within l u = go (eqb k 4) (eqb k 5) refl refl
+    where
+      go : (a b : Bool) → eqb k 4 ≡ a → eqb k 5 ≡ b → true ≡ is_comment (record_at deck c)
+      go true b e h = of-kind is_comment deck c 4 f (eqb-true _ _ e)
+      go false true e h = of-kind is_comment deck c 5 f (eqb-true _ _ h)
+      go false false e h = of-kind is_comment deck c 6 f (let p = eqb-false _ _ e in let q = eqb-false _ _ h in omega (arith, l, u, p, q))
 
 module _ (deck : Bytes) where
   pub comment-stop : (n : ℕ) (c : Cursor) (b : Bool) → b ≡ is_node (record_at deck c) → b ≡ true → false ≡ comment_from deck n c

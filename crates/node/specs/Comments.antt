@@ -1,27 +1,25 @@
 -- Whether a node has comments: what its head says, and what the kinds of its leading records say. They are the same.
-use Rattle.std.specs.Prelude.{◌≡◌, Bool, ◌||◌, length, eqb}
+use Rattle.std.specs.Prelude.{◌≡◌, Bool, ◌||◌, length, eqb, None, Some}
 use Rattle.std.proofs.Math.Path.{refl, sym}
 use Rattle.std.proofs.Common.{◌∙◌, arith, ne_eqb}
 use Prim.Native.Nat.{ℕ, zero, suc, ◌+◌}
 use Rattle.std.proofs.Math.Bool.{true, false, not}
-use Rattle.std.proofs.Math.Option.{none, some}
 use Rattle.definition.specs.Base.{Bytes, when◌then◌else◌, is_nil, is_some}
-use Rattle.definition.specs.Records.{record_at, trailer_at}
+use Rattle.definition.specs.Records.{record_at}
 use Rattle.definition.specs.Tree.{Brought, Kind, node}
-use Rattle.definition.specs.Deck.{is_node, inline_of}
+use Rattle.definition.specs.Deck.{is_node}
 use Rattle.definition.specs.Walk.{has_comments}
 use Rattle.definition.specs.declared.Cursor.{Cursor}
 use Rattle.definition.specs.declared.Record.{Record}
 use Rattle.definition.specs.declared.Record.TheVariants as is
 use Rattle.deck.specs.Next.{next_of}
 use Rattle.node.specs.declared.Lead.{Lead}
-use Rattle.node.specs.declared.Remark.{Remark}
 use Rattle.node.specs.Total.{remark_of, run_from, kept_of}
-use Rattle.node.specs.Head.{onto, no_lead, add_to, headed, head_from, head_at}
+use Rattle.node.specs.Head.{Maybe, there, onto, no_lead, add_to, headed, head_from, head_at}
 
 -- head comments, an inline comment, or foot comments
 unfoldable pub commented : Lead → Bool
-commented l = not (eqb l.heads.count 0) || not (eqb l.remark.at 0) || not (eqb l.foots.count 0)
+commented l = not (eqb l.heads.count 0) || there l.remark || not (eqb l.foots.count 0)
 
 unfoldable pub is_comment : Record → Bool
 is_comment (is.Tag t) = false
@@ -66,8 +64,8 @@ added (is.Tag t) c l = or-none _
 added (is.Anchor t) c l = or-none _
 added (is.Source i) c l = or-none _
 added (is.Head h) c l = rw (counted l.heads.count) (sym (or-true (commented l)))
-added (is.Inline t) c l = rw (counted c.at, or-true (not (eqb l.heads.count 0))) (sym (or-true (commented l)))
-added (is.Foot t) c l = rw (counted l.foots.count) (or-true (not (eqb l.heads.count 0) || not (eqb l.remark.at 0)) ∙ sym (or-true (commented l)))
+added (is.Inline t) c l = rw (or-true (not (eqb l.heads.count 0))) (sym (or-true (commented l)))
+added (is.Foot t) c l = rw (counted l.foots.count) (or-true (not (eqb l.heads.count 0) || there l.remark) ∙ sym (or-true (commented l)))
 added (is.Raw t) c l = or-none _
 added (is.Directive t) c l = or-none _
 added (is.Layout s) c l = or-none _
@@ -102,13 +100,10 @@ some-run e s zero c = refl
 some-run e s (suc n) c = rw (ne_eqb (suc n) 0 (λ e. absurd (omega arith)))
 
 module _ (deck pool : Bytes) where
-  some-remark : (m : Remark) → is_some (remark_of deck pool m) ≡ not (eqb m.at 0)
+  some-remark : (m : Maybe) → is_some (remark_of deck pool m) ≡ there m
   unfolding remark_of is_some
-  some-remark m = go (eqb m.at 0)
-    where
-      go : (b : Bool) → is_some (when b then none else some (inline_of pool (trailer_at deck m.at))) ≡ not b
-      go true = refl
-      go false = refl
+  some-remark None = refl
+  some-remark (Some c) = refl
 
   -- a node has the comments that its head says
   pub comments-are : (p : ℕ) (l : Lead) (b : Brought) (k : Kind) → has_comments (node p (kept_of deck pool l) b k) ≡ commented l

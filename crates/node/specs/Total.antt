@@ -1,6 +1,6 @@
 -- The total decoder: the tree that stands at a cursor, read with no test. Its fuel is the deck that is left, so it never runs out. These are
 -- definitions.
-use Rattle.std.specs.Prelude.{ℕ, zero, suc, ◌+◌, ◌-◌, List, [], ◌∷◌, length, eqb, leb}
+use Rattle.std.specs.Prelude.{ℕ, zero, suc, ◌+◌, ◌-◌, List, [], ◌∷◌, length, leb, None, Some}
 use Rattle.std.proofs.Math.Option.{Option, none, some}
 use Rattle.definition.specs.Base.{Bytes, when◌then◌else◌}
 use Rattle.definition.specs.Records.{text_at, include_at, heading_at, trailer_at}
@@ -10,22 +10,22 @@ use Rattle.definition.specs.Deck.{words, marked, layout_of, source_of, head_of, 
 use Rattle.definition.specs.declared.Cursor.{Cursor}
 use Rattle.definition.specs.declared.Record.{Record}
 use Rattle.definition.specs.declared.Record.TheVariants as is
-use Rattle.node.specs.declared.Held.{Held}
-use Rattle.node.specs.declared.Origin.{Origin}
-use Rattle.node.specs.declared.Remark.{Remark}
 use Rattle.node.specs.declared.Lead.{Lead}
-use Rattle.node.specs.Head.{Head, head_at}
+use Rattle.node.specs.Head.{Head, Maybe, head_at}
 
 -- ---- what a head says of its node
 
-unfoldable pub held_of : Bytes → Bytes → Held → Option Bytes
-held_of deck pool h = when eqb h.at 0 then none else some (words pool (text_at deck h.at))
+unfoldable pub held_of : Bytes → Bytes → Maybe → Option Bytes
+held_of deck pool None = none
+held_of deck pool (Some c) = some (words pool (text_at deck c.at))
 
-unfoldable pub origin_of : Bytes → Bytes → Origin → Option Source
-origin_of deck pool o = when eqb o.at 0 then none else some (source_of pool (include_at deck o.at))
+unfoldable pub origin_of : Bytes → Bytes → Maybe → Option Source
+origin_of deck pool None = none
+origin_of deck pool (Some c) = some (source_of pool (include_at deck c.at))
 
-unfoldable pub remark_of : Bytes → Bytes → Remark → Option Inline
-remark_of deck pool m = when eqb m.at 0 then none else some (inline_of pool (trailer_at deck m.at))
+unfoldable pub remark_of : Bytes → Bytes → Maybe → Option Inline
+remark_of deck pool None = none
+remark_of deck pool (Some c) = some (inline_of pool (trailer_at deck c.at))
 
 -- n entries, s bytes apart
 unfoldable pub run_from : {A : Type 0} → (Cursor → A) → ℕ → ℕ → Cursor → List A

@@ -4,7 +4,7 @@ use Prim.Native.Nat.{ℕ}
 use mathlib.Core.Bool.{Bool, true, false, not, ◌||◌}
 use mathlib.Core.List.{◌∷◌, ◌++◌}
 use mathlib.Core.Option.{Option}
-use borrow.Author.Tests.{eq-eqb, ne_eqb, eqb-true, not-true}
+use borrow.Author.Tests.{not-true}
 use Rattle.definition.specs.Base.{Bytes}
 use Rattle.definition.specs.Ascii.{LF, SP, '&'}
 use Rattle.definition.specs.Records.{text_at, include_at, trailer_at}
@@ -15,19 +15,21 @@ use Rattle.definition.specs.declared.Include.{Include}
 use Rattle.definition.specs.declared.Text.{Text}
 use Rattle.definition.specs.declared.Trailer.{Trailer}
 use Rattle.laws.specs.Tests.{both_left, both_right}
-use Rattle.node.specs.declared.Held.{Held}
+use Rattle.std.specs.Prelude.{None, Some}
+use Rattle.std.proofs.Common.{true≢false}
+use Rattle.definition.specs.declared.Cursor.{Cursor}
+use Rattle.node.specs.Head.{Maybe, there}
 use Rattle.node.specs.declared.Lead.{Lead}
-use Rattle.node.specs.declared.Origin.{Origin}
-use Rattle.node.specs.declared.Remark.{Remark}
 use Rattle.node.specs.Total.{held_of, origin_of, remark_of, brought_of}
 use Rattle.pen.specs.Pen.{Pen, put1, puts, and_then, note_of, noted, ink}
 use Rattle.pen.specs.Draws.{Draws, both, of-byte, draws-yes, draws-no, stays}
 use Rattle.parts.specs.Lines.{only, props_of, props_by, breaks}
-use Rattle.parts.specs.Props.{has_held, held-some, has-props-is, no-props, silent_in}
+use Rattle.parts.specs.Props.{held-some, has-props-is, no-props, silent_in}
 
-pub no-remark : (deck pool : Bytes) (place : ℕ) (m : Remark) (P : Pen) → m.at ≡ 0 → Draws (comment place (remark_of deck pool m)) P P
+pub no-remark : (deck pool : Bytes) (place : ℕ) (m : Maybe) (P : Pen) → there m ≡ false → Draws (comment place (remark_of deck pool m)) P P
 unfolding ink note_of remark_of
-no-remark deck pool place m P e = record { drawn = λ s. rw (eq-eqb _ _ e) }
+no-remark deck pool place None P e = record { drawn = λ s. refl }
+no-remark deck pool place (Some c) P e = absurd (true≢false e)
 
 -- a line that has neither
 pub silent-break :
@@ -37,35 +39,37 @@ unfolding breaks newline props_compact props_by brought_of silent_in
 silent-break deck pool place l r e t d =
     let h = sym e ∙ t in
     let p = not-true _ (both_left _ _ h) in
-    let m = eqb-true _ _ (both_right (not (has_held l.tag || has_held l.anchor)) _ h) in
+    let m = not-true _ (both_right (not (there l.tag || there l.anchor)) _ h) in
     both _ _ (no-props deck pool true l.tag l.anchor _ refl p) (both _ _ (no-remark deck pool place l.remark _ m) (of-byte space LF d))
 
 pub some-remark :
-    (deck pool : Bytes) (place : ℕ) (m : Remark) (r : Trailer) (t : Bytes) (P Q : Pen) → (m.at ≡ 0 → ⊥) → r ≡ trailer_at deck m.at → t ≡ words pool r.text
+    (deck pool : Bytes) (place : ℕ) (m : Maybe) (c : Cursor) (r : Trailer) (t : Bytes) (P Q : Pen) → m ≡ Some c → r ≡ trailer_at deck c.at → t ≡ words pool r.text
     → Q ≡ noted place (record { text = t; spaces = r.spaces }) P → Draws (comment place (remark_of deck pool m)) P Q
 unfolding ink note_of remark_of inline_of
-some-remark deck pool place m r t P Q e k f d = record { drawn = λ s. rw (ne_eqb _ _ e, ← k, ← f) d }
+some-remark deck pool place m c r t P Q e k f d = record { drawn = λ s. rw (e, ← k, ← f) d }
 
-pub no-prop : (deck pool before : Bytes) (h : Held) (after : Bytes) (P : Pen) → h.at ≡ 0 → Draws (prop before (held_of deck pool h) after) P P
+pub no-prop : (deck pool before : Bytes) (h : Maybe) (after : Bytes) (P : Pen) → there h ≡ false → Draws (prop before (held_of deck pool h) after) P P
 unfolding ink prop held_of nothing puts
-no-prop deck pool before h after P e = record { drawn = λ s. rw (eq-eqb _ _ e) }
+no-prop deck pool before None after P e = record { drawn = λ s. refl }
+no-prop deck pool before (Some c) after P e = absurd (true≢false e)
 
 pub some-prop :
-    (deck pool before : Bytes) (h : Held) (after : Bytes) (x : Text) (t : Bytes) (P Q R S : Pen) → (h.at ≡ 0 → ⊥) → x ≡ text_at deck h.at → t ≡ words pool x
+    (deck pool before : Bytes) (h : Maybe) (c : Cursor) (after : Bytes) (x : Text) (t : Bytes) (P Q R S : Pen) → h ≡ Some c → x ≡ text_at deck c.at → t ≡ words pool x
     → Q ≡ puts before P → R ≡ puts t Q → S ≡ puts after R → Draws (prop before (held_of deck pool h) after) P S
 unfolding ink prop held_of
-some-prop deck pool before h after x t P Q R S e k f u v w = record { drawn = λ s. rw (ne_eqb _ _ e, ← k, ← f) (and_then P (before ++ t) after (and_then P before t u v) w) }
+some-prop deck pool before h c after x t P Q R S e k f u v w = record { drawn = λ s. rw (e, ← k, ← f) (and_then P (before ++ t) after (and_then P before t u v) w) }
 
-pub no-directive : (deck pool : Bytes) (o : Origin) (P : Pen) → o.at ≡ 0 → Draws (put directive (directive_of (origin_of deck pool o))) P P
+pub no-directive : (deck pool : Bytes) (o : Maybe) (P : Pen) → there o ≡ false → Draws (put directive (directive_of (origin_of deck pool o))) P P
 unfolding ink directive_of origin_of puts
-no-directive deck pool o P e = record { drawn = λ s. rw (eq-eqb _ _ e) }
+no-directive deck pool None P e = record { drawn = λ s. refl }
+no-directive deck pool (Some c) P e = absurd (true≢false e)
 
 pub some-directive :
-    (deck pool : Bytes) (o : Origin) (i : Include) (t u : Bytes) (P Q R S : Pen) → (o.at ≡ 0 → ⊥) → i ≡ include_at deck o.at → t ≡ words pool i.tag → u ≡ words pool i.target
+    (deck pool : Bytes) (o : Maybe) (c : Cursor) (i : Include) (t u : Bytes) (P Q R S : Pen) → o ≡ Some c → i ≡ include_at deck c.at → t ≡ words pool i.tag → u ≡ words pool i.target
     → Q ≡ puts t P → R ≡ put1 Q SP → S ≡ puts u R → Draws (put directive (directive_of (origin_of deck pool o))) P S
 unfolding ink directive_of origin_of source_of puts
-some-directive deck pool o i t u P Q R S e k f g x y z =
-    record { drawn = λ s. rw (ne_eqb _ _ e, ← k, ← f, ← g) (and_then P t (SP ∷ u) x (z ∙ ap (puts u) y)) }
+some-directive deck pool o c i t u P Q R S e k f g x y z =
+    record { drawn = λ s. rw (e, ← k, ← f, ← g) (and_then P t (SP ∷ u) x (z ∙ ap (puts u) y)) }
 
 -- a tag and an anchor, each after a space or each with one after it
 pub props-by : (compact : Bool) (t a : Option Bytes) {P Q R : Pen}
@@ -77,7 +81,7 @@ props-by false t a d e = both _ _ d e
 
 -- a line of properties: a space follows the tag where an anchor does
 pub props-line :
-    (deck pool : Bytes) (l : Lead) (n r : Bool) {P Q R S : Pen} → r ≡ (has_held l.tag || has_held l.anchor) → r ≡ true → n ≡ has_held l.anchor
+    (deck pool : Bytes) (l : Lead) (n r : Bool) {P Q R S : Pen} → r ≡ (there l.tag || there l.anchor) → r ≡ true → n ≡ there l.anchor
     → Draws (prop (only false SP ++ only false '&') (held_of deck pool l.tag) (only n SP)) P Q
     → Draws (prop (only false SP ++ only true '&') (held_of deck pool l.anchor) (only false SP)) Q R → S ≡ put1 R LF → Draws (props_line (brought_of deck pool l)) P S
 unfolding props_line newline brought_of
@@ -85,6 +89,6 @@ props-line deck pool l n r e t k d f g =
     draws-yes _ _ _ (has-props-is deck pool l ∙ sym e ∙ t)
     (rw (held-some deck pool l.anchor, ← k) (both _ _ d (both _ _ f (of-byte space LF g))))
 
-pub no_line : (deck pool : Bytes) (l : Lead) (r : Bool) {P : Pen} → r ≡ (has_held l.tag || has_held l.anchor) → r ≡ false → Draws (props_line (brought_of deck pool l)) P P
+pub no_line : (deck pool : Bytes) (l : Lead) (r : Bool) {P : Pen} → r ≡ (there l.tag || there l.anchor) → r ≡ false → Draws (props_line (brought_of deck pool l)) P P
 unfolding props_line
 no_line deck pool l r e t = draws-no _ _ _ (has-props-is deck pool l ∙ sym e ∙ t) stays

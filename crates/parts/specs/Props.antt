@@ -1,32 +1,23 @@
 -- Properties, a tag and an anchor: whether a node has them, and that nothing is drawn where it has none.
-use Rattle.std.specs.Prelude.{◌≡◌, refl, Bool, true, false, not, ◌||◌, ◌&&◌, eqb}
+use Rattle.std.specs.Prelude.{◌≡◌, refl, Bool, true, false, not, ◌||◌, ◌&&◌, None, Some}
 use Rattle.std.proofs.Common.{sym, ◌∙◌, true≢false}
 use Rattle.std.proofs.Math.Option.{Option, none, some}
-use Rattle.definition.specs.Base.{Bytes, when◌then◌else◌, is_some}
-use Rattle.definition.specs.Records.{text_at}
-use Rattle.definition.specs.Deck.{words}
+use Rattle.definition.specs.Base.{Bytes, is_some}
 use Rattle.definition.specs.Pen.{nothing}
 use Rattle.definition.specs.Walk.{prop, props, has_props}
 use Rattle.node.specs.declared.Lead.{Lead}
-use Rattle.node.specs.declared.Held.{Held}
+use Rattle.node.specs.Head.{Maybe, there}
 use Rattle.node.specs.Total.{brought_of, held_of}
 use Rattle.pen.specs.Pen.{Pen}
 use Rattle.pen.specs.Draws.{Draws, both, stays}
 use Rattle.parts.specs.Lines.{props_of, props_by}
 
--- a tag or an anchor is there
-unfoldable pub has_held : Held → Bool
-has_held h = not (eqb h.at 0)
+pub held-some : (deck pool : Bytes) (h : Maybe) → is_some (held_of deck pool h) ≡ there h
+unfolding held_of is_some
+held-some deck pool None = refl
+held-some deck pool (Some c) = refl
 
-pub held-some : (deck pool : Bytes) (h : Held) → is_some (held_of deck pool h) ≡ has_held h
-unfolding has_held held_of is_some
-held-some deck pool h = go (eqb h.at 0)
-  where
-    go : (b : Bool) → is_some (when b then none else some (words pool (text_at deck h.at))) ≡ not b
-    go true = refl
-    go false = refl
-
-pub has-props-is : (deck pool : Bytes) (l : Lead) → has_props (brought_of deck pool l) ≡ (has_held l.tag || has_held l.anchor)
+pub has-props-is : (deck pool : Bytes) (l : Lead) → has_props (brought_of deck pool l) ≡ (there l.tag || there l.anchor)
 unfolding has_props brought_of
 has-props-is deck pool l = rw (held-some, held-some)
 
@@ -45,10 +36,10 @@ neither compact none (some t) e = absurd (true≢false e)
 neither compact (some t) y e = absurd (true≢false e)
 
 pub no-props :
-    (deck pool : Bytes) (compact : Bool) (x y : Held) (b : Bool) {P : Pen} → b ≡ (has_held x || has_held y) → b ≡ false
+    (deck pool : Bytes) (compact : Bool) (x y : Maybe) (b : Bool) {P : Pen} → b ≡ (there x || there y) → b ≡ false
     → Draws (props_by compact (held_of deck pool x) (held_of deck pool y)) P P
 no-props deck pool compact x y b e f = neither compact (held_of deck pool x) (held_of deck pool y) (rw (held-some deck pool x, held-some deck pool y) (sym e ∙ f))
 
 -- neither a tag nor an anchor is there, nor an inline comment
 unfoldable pub silent_in : Lead → Bool
-silent_in l = not (has_held l.tag || has_held l.anchor) && eqb l.remark.at 0
+silent_in l = not (there l.tag || there l.anchor) && not (there l.remark)

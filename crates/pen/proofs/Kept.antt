@@ -1,8 +1,11 @@
 -- How a writer keeps what it says in two numbers: each part of a number by itself, and what is left of the others where one is put anew.
-use Prim.Native.Nat.{ℕ, ◌+◌, ◌-◌, ◌*◌, ◌/◌, ◌%◌, ◌<◌, ◌^◌}
+use Prim.Native.Nat.{ℕ, zero, suc, ◌+◌, ◌-◌, ◌*◌, ◌/◌, ◌%◌, ◌<◌, ◌^◌}
 use mathlib.Core.Path.{◌≡◌, refl}
+use mathlib.Core.Bool.{Bool, true, false, not}
+use lib.Dec.{eqb}
 use native.Mathlib.Omega.{arith}
 use Rattle.pen.specs.Pen.{fields}
+use Rattle.pen.specs.Pen.{from_bool}
 use Rattle.pen.specs.declared.Writer.{Writer}
 
 pub record Counts (z n r i : ℕ) : Type 0 where
@@ -62,6 +65,19 @@ key-at z n h = omega arith
 
 columns-above : (y z : ℕ) → y / 262144 ≡ z / 262144 → y / 68719476736 ≡ z / 68719476736
 columns-above y z e = omega arith
+
+-- a yes or no is 0 or 1
+pub bit-small : (b : Bool) → from_bool b < 2
+bit-small true = omega arith
+bit-small false = omega arith
+
+pub odd_bit : (n : ℕ) → from_bool (not (eqb (n % 2) 0)) ≡ n % 2
+odd_bit n = go (n % 2) (omega arith)
+  where
+    go : (m : ℕ) → m < 2 → from_bool (not (eqb m 0)) ≡ m
+    go zero h = refl
+    go (suc zero) h = refl
+    go (suc (suc m)) h = absurd (omega (arith, h))
 
 pub other_key : (z n : ℕ) → n < 2 → State (z / 131072 * 131072 + n * 65536 + z % 65536) (z % 256) (z / 256 % 256) n (z / 131072 % 2) (z / 262144 % 262144) (z / 68719476736)
 other_key z n h =

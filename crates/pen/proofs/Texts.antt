@@ -1,32 +1,20 @@
 -- A text is written at once, as far as it has room: where its bytes are stored, and what the writer is then.
 use mathlib.Core.Path.{◌≡◌, refl, sym, ap, ◌∙◌}
-use Prim.Native.Nat.{ℕ, zero, suc, ◌+◌, ◌-◌, ◌/◌, ◌%◌, ◌<◌, ◌≤◌, min}
+use Prim.Native.Nat.{ℕ, zero, suc, ◌+◌, ◌-◌, ◌<◌, ◌≤◌, min}
 use native.Mathlib.Omega.{arith}
-use native.Mathlib.Numerals.{add-one}
-use mathlib.Core.List.{[], ◌∷◌}
+use mathlib.Core.List.{[], ◌∷◌, ◌++◌, append_assoc}
 use lib.ListN.{length, get_or, set, take, drop, replicate, length-set, length-replicate, get_or-replicate, get_or-eq_default}
-use lib.Seq.{sets, drop-cons, take-nil, set_out, get_or-set_other}
+use lib.Seq.{sets, sets-eq, drop-drop, take-nil, take-length, length-take-le, set_out, get_or-set_other}
 use lib.Dec.{eqb, leb}
-use borrow.Author.Tests.{leb-true, leb-false, le-leb, lt-leb}
-use mathlib.Core.Bool.{Bool, true, false, not, true≢false}
+use Rattle.std.proofs.Common.{take-append-drop, length-drop}
+use borrow.Author.Tests.{leb-true, leb-false, eq-eqb, ne_eqb}
+use borrow.Rule.Slice.PartMut.{put_mid, mid_of}
+use mathlib.Core.Bool.{Bool, true, false}
 use Rattle.definition.specs.Base.{Bytes, when◌then◌else◌}
+use Rattle.definition.specs.Ascii.{LF}
 use Rattle.pen.specs.Pen.{Fields, Pen, page, moved, put_to, at_column, next_column, column_after, column_over, column_past, put1, puts}
 
--- ---- room
-
--- n bytes fit into what is left of the room
-pub fit_same : (len n room : ℕ) → len ≤ room → leb n (room - len) ≡ leb (len + n) room
-fit_same len n room h = go (leb n (room - len)) refl
-  where
-    go : (b : Bool) → leb n (room - len) ≡ b → leb n (room - len) ≡ leb (len + n) room
-    go true e = let l = leb-true n (room - len) e in e ∙ sym (le-leb (len + n) room (omega (arith, l, h)))
-    go false e = let l = leb-false n (room - len) e in e ∙ sym (lt-leb (len + n) room (omega (arith, l, h)))
-
-pub roomy : (r : Bool) (n room : ℕ) → r ≡ leb n room → r ≡ true → n ≤ room
-roomy r n room e f = leb-true n room (sym e ∙ f)
-
-pub roomless : (r : Bool) (n room : ℕ) → r ≡ leb n room → r ≡ false → room < n
-roomless r n room e f = leb-false n room (sym e ∙ f)
+-- ---- storing what has room
 
 -- past the end nothing is stored
 pub sets-out : (l : Bytes) (i : ℕ) (t : Bytes) → length l ≤ i → sets l i t ≡ l
@@ -44,48 +32,65 @@ take_again zero n b h = refl
 take_again (suc k) zero b h = absurd (omega (arith, h))
 take_again (suc k) (suc n) b h = ap (λ (l : Bytes). b ∷ l) (take_again k n b (omega (arith, h)))
 
-pub fill-part : (b n : ℕ) (l : Bytes) (i : ℕ) → length l < i + n → sets l i (replicate (length l - i) b) ≡ sets l i (replicate n b)
-fill-part b n l i h = go (leb i (length l)) refl
+-- a part of the room is written, the rest is as it was: so it does to store all
+pub stores : (o t m : Bytes) (at s e : ℕ) → s ≡ min at (length o) → e ≡ min (at + length t) (length o) → m ≡ take (e - s) t → put_mid s (e - s) o m ≡ sets o at t
+stores o t m at s e es ee em = go (leb at (length o)) refl
   where
-    go : (d : Bool) → leb i (length l) ≡ d → sets l i (replicate (length l - i) b) ≡ sets l i (replicate n b)
-    go true e =
-        let k = leb-true i (length l) e in
-        ap (sets l i) (sym (take_again (length l - i) n b (omega (arith, h, k)))) ∙ sets-part (replicate n b) l i (length l - i) (omega (arith, k))
-    go false e = let k = leb-false i (length l) e in sets-out l i (replicate (length l - i) b) (omega (arith, k)) ∙ sym (sets-out l i (replicate n b) (omega (arith, k)))
+    within : (k : ℕ) → s ≡ at → e - s ≡ k → at + k ≤ length o → k ≤ length t → put_mid s (e - s) o m ≡ sets o at (take k t)
+    within k sa ek h l =
+        let n : length (take k t) ≡ k = length-take-le k t l in
+        rw (em, ek, sa, sets-eq (take k t) o at (rw n h), n, drop-drop k at o) (sym (append_assoc (take at o) (take k t) (drop (at + k) o)))
 
--- ---- storing, byte by byte
+    all : (d : Bool) → leb (at + length t) (length o) ≡ d → s ≡ at → at ≤ length o → put_mid s (e - s) o m ≡ sets o at t
+    all true f sa h =
+        let g = leb-true (at + length t) (length o) f in
+        within (length t) sa (omega (arith, sa, ee, g)) g (omega arith) ∙ ap (sets o at) (take-length t)
+    all false f sa h =
+        let g = leb-false (at + length t) (length o) f in
+        let k : ℕ = length o - at in
+        within k sa (omega (arith, sa, ee, g)) (omega (arith, h)) (omega (arith, g)) ∙ sets-part t o at k (omega (arith, h))
 
-pub store-start : (o : Bytes) (at : ℕ) (t : Bytes) → sets o (at + 0) t ≡ sets o at t
-store-start o at t = let e : at + 0 ≡ at = omega arith in rw e
+    go : (d : Bool) → leb at (length o) ≡ d → put_mid s (e - s) o m ≡ sets o at t
+    go true f = let g = leb-true at (length o) f in all (leb (at + length t) (length o)) refl (omega (arith, es, g)) g
+    go false f =
+        let g = leb-false at (length o) f in
+        let n : e - s ≡ 0 = omega (arith, es, ee, g) in
+        let l : s ≡ length o = omega (arith, es, g) in
+        rw (em, n, l) (take-append-drop (length o) o) ∙ sym (sets-out o at t (omega (arith, g)))
 
-pub fill_start : (o : Bytes) (at b n : ℕ) → sets o (at + 0) (replicate (n - 0) b) ≡ sets o at (replicate n b)
-fill_start o at b n = let e : n - 0 ≡ n = omega arith in rw e (store-start o at (replicate n b))
-
--- one byte more of a text is stored
-pub stored : (t o o' : Bytes) (at i : ℕ) (z : Bytes) → i < length t → o' ≡ set o (at + i) (get_or t i 0) → sets o (at + i) (drop i t) ≡ z → sets o' (at + (i + 1)) (drop (i + 1) t) ≡ z
-stored t o o' at i z h e inv =
-    let n : at + (i + 1) ≡ suc (at + i) = omega arith in
-    rw (n, e, add-one) (rw (drop-cons t i 0 h) at inv)
-
-pub filled : (b n : ℕ) (o o' : Bytes) (at i : ℕ) (z : Bytes) → i < n → o' ≡ set o (at + i) b → sets o (at + i) (replicate (n - i) b) ≡ z → sets o' (at + (i + 1)) (replicate (n - (i + 1)) b) ≡ z
-filled b n o o' at i z h e inv =
-    let m : n - i ≡ suc (n - (i + 1)) = omega arith in
-    let k : at + (i + 1) ≡ suc (at + i) = omega arith in
-    rw (k, e) (rw m at inv)
+pub fills : (o m : Bytes) (at n b s e : ℕ) → s ≡ min at (length o) → e ≡ min (at + n) (length o) → m ≡ replicate (length (mid_of s (e - s) o)) b
+    → put_mid s (e - s) o m ≡ sets o at (replicate n b)
+fills o m at n b s e es ee em =
+    let l : length (replicate n b) ≡ n = length-replicate n b in
+    let d : length (drop s o) ≡ length o - s = length-drop s o in
+    let k : length (mid_of s (e - s) o) ≡ e - s = length-take-le (e - s) (drop s o) (omega (arith, ee, d)) in
+    stores o (replicate n b) m at s e es (rw l ee) (em ∙ rw k (sym (take_again (e - s) n b (omega (arith, es, ee)))))
 
 -- ---- the column
 
--- it goes by the byte
-pub column-on : (most c c' i : ℕ) (t : Bytes) (z : ℕ) → i < length t → c' ≡ next_column most c (get_or t i 0)
-    → column_over most c (drop i t) ≡ z → column_over most c' (drop (i + 1) t) ≡ z
+-- after a byte again and again
+again : (most c b n : ℕ) → column_over most c (replicate (suc n) b) ≡ (when eqb b LF then 0 else min (c + suc n) most)
 unfolding column_over
-column-on most c c' i t z h e inv = rw (add-one, e) (rw (drop-cons t i 0 h) at inv)
+again most c b zero = refl
+again most c b (suc n) = again most (next_column most c b) b n ∙ go (eqb b LF)
+  where
+    go : (k : Bool) → (when k then 0 else min ((when k then 0 else min (c + 1) most) + suc n) most) ≡ (when k then 0 else min (c + suc (suc n)) most)
+    go true = refl
+    go false = omega arith
 
-pub column_again : (most c c' b n z : ℕ) → 0 < n → c' ≡ next_column most c b
-    → column_over most c (replicate n b) ≡ z → column_over most c' (replicate (n - 1) b) ≡ z
+pub again_break : (most c b n : ℕ) → 0 < n → b ≡ 10 → column_over most c (replicate n b) ≡ 0
+again_break most c b zero h e = absurd (omega arith)
+again_break most c b (suc n) h e = again most c b n ∙ rw (eq-eqb b 10 e)
+
+pub again_other : (most c b n : ℕ) → 0 < n → (b ≡ 10 → ⊥) → column_over most c (replicate n b) ≡ min (c + n) most
+again_other most c b zero h e = absurd (omega arith)
+again_other most c b (suc n) h e = again most c b n ∙ rw (ne_eqb b 10 e)
+
+-- after one byte more
+pub column_push : (most c : ℕ) (t : Bytes) (b : ℕ) → column_over most c (t ++ (b ∷ [])) ≡ column_over most (column_over most c t) (b ∷ [])
 unfolding column_over
-column_again most c c' b zero z h e inv = absurd (omega arith)
-column_again most c c' b (suc n) z h e inv = let m : suc n - 1 ≡ n = omega arith in rw (m, e) inv
+column_push most c [] b = refl
+column_push most c (a ∷ t) b = column_push most (next_column most c a) t b
 
 -- of a text it is that of its first byte, and then of the rest
 past-step : (w : Fields) (most b : ℕ) (t : Bytes) → column_past w most (b ∷ t) ≡ column_past (at_column (column_after w most b) w) most t
@@ -96,24 +101,6 @@ past-step w most b t = go (eqb w.tracks 0)
         ≡ (when k then (when k then w.column else next_column most w.column b) else column_over most (when k then w.column else next_column most w.column b) t)
     go true = refl
     go false = refl
-
--- where columns are kept it is the text's, else it stays
-module _ (w : Fields) (most : ℕ) (t : Bytes) (k : Bool) (e : k ≡ not (eqb w.tracks 0)) where
-  pub past-kept : (c₀ c : ℕ) → k ≡ true → c₀ ≡ w.column → c ≡ column_over most c₀ t → at_column c w ≡ at_column (column_past w most t) w
-  unfolding column_past
-  past-kept c₀ c f g h = go (eqb w.tracks 0) (sym f ∙ e)
-    where
-      go : (d : Bool) → true ≡ not d → at_column c w ≡ at_column (when d then w.column else column_over most w.column t) w
-      go true q = absurd (true≢false q)
-      go false q = ap (λ (x : ℕ). at_column x w) (h ∙ rw g)
-
-  pub past-none : k ≡ false → w ≡ at_column (column_past w most t) w
-  unfolding column_past
-  past-none f = go (eqb w.tracks 0) (sym f ∙ e)
-    where
-      go : (d : Bool) → false ≡ not d → w ≡ at_column (when d then w.column else column_over most w.column t) w
-      go true q = refl
-      go false q = absurd (true≢false (sym q))
 
 past_one : (w : Fields) (most b : ℕ) → column_past w most (b ∷ []) ≡ column_after w most b
 unfolding column_past column_after column_over
@@ -173,26 +160,15 @@ no_text (b ∷ t) p e = absurd (omega arith)
 pub paged : {w v : Fields} {o : Bytes} → w ≡ v → page w o ≡ page v o
 paged {o = o} e = ap (λ (x : Fields). page x o) e
 
-pub len-kept : (w v : Fields) (c : ℕ) → v ≡ at_column c w → v.len ≡ w.len
-len-kept w v c e = ap (λ (x : Fields). x.len) e
-
--- a writer v stands at the column after the text, and r is v after so many bytes: then r is w after the text
-module _ (w v r : Fields) (o o' : Bytes) (n e : ℕ) (f : r ≡ put_to n (e / 256) (e % 256) v) where
-  pub text-put : (t : Bytes) → 0 < length t → v ≡ at_column (column_past w (length o + 2) t) w
-      → n ≡ min (w.len + length t) (length o + 2) → e / 256 ≡ get_or t (length t - 1) 0 → e % 256 ≡ get_or o (w.len + length t - 1) 0 → o' ≡ sets o w.len t
+-- a writer v stands at the column after the text, and r is v after its bytes: then r is w after the text
+module _ (w v r : Fields) (o o' : Bytes) (n b : ℕ) (f : r ≡ put_to (min (v.len + n) (length o + 2)) b (get_or o (v.len + n - 1) 0) v) where
+  pub text_put : (t : Bytes) → 0 < length t → v ≡ at_column (column_past w (length o + 2) t) w
+      → n ≡ length t → b ≡ get_or t (length t - 1) 0 → o' ≡ sets o w.len t
       → page r o' ≡ puts t (page w o)
-  text-put t h g en eb eu eo = ap (λ (x : Fields). page x o') (f ∙ ap (put_to n (e / 256) (e % 256)) g) ∙ same w en eb eu refl eo ∙ written t w o h
+  text_put t h g en eb eo = rw (f, g, en, eb, eo) (written t w o h)
 
-  pub again-put : (b k : ℕ) → 0 < k → v ≡ at_column (column_past w (length o + 2) (replicate k b)) w
-      → n ≡ min (w.len + k) (length o + 2) → e / 256 ≡ b → e % 256 ≡ get_or o (w.len + k - 1) 0 → o' ≡ sets o w.len (replicate k b)
-      → page r o' ≡ puts (replicate k b) (page w o)
-  again-put b k h g en eb eu eo =
-      let l : length (replicate k b) ≡ k = length-replicate k b in
-      let d : get_or (replicate k b) (k - 1) 0 ≡ b = get_or-replicate k (k - 1) b 0 (omega (arith, h)) in
-      text-put (replicate k b) (rw l h) g (rw l en) (rw l (eb ∙ sym d)) (rw l eu) eo
-
-  pub byte_put : (b : ℕ) → v ≡ at_column (column_past w (length o + 2) (b ∷ [])) w
-      → n ≡ min (w.len + 1) (length o + 2) → e / 256 ≡ b → e % 256 ≡ get_or o w.len 0 → o' ≡ set o w.len b
-      → page r o' ≡ put1 (page w o) b
-  unfolding puts
-  byte_put b g en eb eu eo = let l : w.len + 1 - 1 ≡ w.len = omega arith in text-put (b ∷ []) (omega arith) g en eb (rw l eu) eo
+  pub again_put : 0 < n → v ≡ at_column (column_past w (length o + 2) (replicate n b)) w → o' ≡ sets o w.len (replicate n b)
+      → page r o' ≡ puts (replicate n b) (page w o)
+  again_put h g eo =
+      let l : length (replicate n b) ≡ n = length-replicate n b in
+      text_put (replicate n b) (rw l h) g (sym l) (rw l (sym (get_or-replicate n (n - 1) b 0 (omega (arith, h))))) eo

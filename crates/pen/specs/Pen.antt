@@ -1,5 +1,6 @@
 -- The pen: what writing into a lent slice does, one byte after another, and what a script does to it. Total in all states: a store past the
 -- end changes nothing, a byte past the end is 0, and counts stop at two past the room.
+pub use mir.Val.{bool_byte as from_bool}
 use Rattle.std.specs.Prelude.{ℕ, ◌+◌, ◌-◌, ◌/◌, ◌%◌, min, ◌≡◌, refl, [], ◌∷◌, ◌++◌, length, get_or, set, eqb}
 use Rattle.std.proofs.Common.{sym, ap, ◌∙◌}
 use Rattle.std.proofs.Math.Option.{Option, none, some}

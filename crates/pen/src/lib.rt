@@ -2,15 +2,15 @@
 // finished bytes fit is known also where the last line break is dropped again.
 #![tactic(auto)]
 
-ghost use Rattle.std.specs.Prelude.{◌≡◌, ◌+◌, ◌-◌, ◌/◌, ◌%◌, ◌<◌, ◌≤◌, ◌^◌, min, max, not, [], length, replicate, eqb, leb};
+ghost use Rattle.std.specs.Prelude.{◌≡◌, ℕ, ◌+◌, ◌-◌, ◌/◌, ◌%◌, ◌<◌, ◌^◌, min, max, not, [], length, get_or, replicate, eqb};
 ghost use Rattle.std.proofs.lemmas.List.Edits.{sets};
-ghost use Rattle.definition.specs.Base.{spaces};
+ghost use Rattle.definition.specs.Base.{spaces, when◌then◌else◌};
 ghost use Rattle.definition.specs.Pen.{hashed, ends_closed};
-ghost use Rattle.terms.specs.Terms.{settings_in};
-ghost use Rattle.pen.specs.Pen.{fields, pen, put1, puts, next_column, column_over, column_past, at_column, put_to, line_ended, with_flow, with_key, with_inline, with_raw, noted, rawed, unput, ended};
+ghost use Rattle.pen.specs.Pen.{from_bool};
+ghost use Rattle.pen.specs.Pen.{fields, pen, put1, puts, column_over, at_column, put_to, line_ended, with_flow, with_key, with_inline, with_raw, noted, rawed, unput, ended};
 ghost use Rattle.pen.specs.Shown.{begun};
 
-use terms::Terms;
+use definition::Settings;
 
 // A writer keeps nine numbers in two, since it goes in and comes back at every call (docs/DECISIONS.md). What it says is `fields`.
 // `counts`: how many bytes were put, at most the room and two; RAW times one more than where the last raw text ended without a line break, 0 at the
@@ -41,33 +41,17 @@ const FLOWS: usize = 262144;
 
 const COLUMN: usize = 68719476736;
 
-// Two bytes in one number.
-fn edge_of(last: u8, under: u8) -> usize
-    ensures { (result / 256 ≡ last) × (result % 256 ≡ under) × (result < 65536) }
-{
-    last as usize * 256 + under as usize
-}
-
-// One more, but never more than `most`.
-fn up_to(n: usize, most: usize) -> usize
-    requires { most < 2 ^ 63 }
-    ensures { result ≡ min (n + 1) most }
-{
-    if n < most {
-        return n + 1;
-    }
-    most
-}
-
-// The column after a byte, where it was `column` before it.
-fn next_column(column: usize, most: usize, b: u8) -> usize
-    requires { most < 2 ^ 28 }
-    ensures { (result ≡ next_column most column b) × (result < 2 ^ 28) }
+// The column after a byte `n` times, where it was `column` before it.
+#[tactic(auto, using(crate::proofs::Texts::again_break, crate::proofs::Texts::again_other))]
+fn column_after(column: usize, most: usize, b: u8, n: usize) -> usize
+    requires { (0 < n) × (most < 2 ^ 28) }
+    ensures { (result ≡ column_over most column (replicate n b)) × (result < 2 ^ 28) }
 {
     if b == b'\n' {
-        return 0;
+        0
+    } else {
+        column.saturating_add(n).min(most)
     }
-    up_to(column, most)
 }
 
 // The column after a text.
@@ -75,125 +59,39 @@ fn column_over(column: usize, most: usize, t: &[u8]) -> usize
     requires { (column < 2 ^ 28) × (most < 2 ^ 28) }
     ensures { (result ≡ column_over most column t.now) × (result < 2 ^ 28) }
 {
-    let mut c = column;
-    let mut i = 0;
-    while i < t.len() {
-        c = next_column(c, most, t[i]);
-        i += 1;
-    }
-    c
+    t.iter().fold(column, |c, b| column_after(c, most, *b, 1))
 }
 
-// The column after one byte again and again.
-fn column_again(column: usize, most: usize, b: u8, n: usize) -> usize
-    requires { (column < 2 ^ 28) × (most < 2 ^ 28) }
-    ensures { (result ≡ column_over most column (replicate n b)) × (result < 2 ^ 28) }
-{
-    let mut c = column;
-    let mut left = n;
-    while left > 0 {
-        c = next_column(c, most, b);
-        left -= 1;
-    }
-    c
-}
-
-// Whether `n` bytes have room from `len` on.
-fn has_room(len: usize, n: usize, room: usize) -> bool
-    ensures { result ≡ leb (len + n) room }
-{
-    if room < len {
-        return false;
-    }
-    n <= room - len
-}
-
-// The count after `n` bytes more, never more than `most`.
-fn end_of(len: usize, n: usize, most: usize) -> usize
-    ensures { result ≡ min (len + n) most }
-{
-    if most <= len {
-        return most;
-    }
-    if most - len <= n {
-        return most;
-    }
-    len + n
-}
-
-// Copies a text to a place.
+// Stores of a text what has room from a place on.
 fn copy_to(out: &mut [u8], at: usize, t: &[u8])
-    requires { (at + length t.now ≤ length out.old) × (length out.old < 2 ^ 21) }
     ensures { out.new ≡ sets out.old at t.now }
 {
-    let mut i = 0;
-    while i < t.len() {
-        out[at + i] = t[i];
-        i += 1;
-    }
+    let start = at.min(out.len());
+    let end = at.saturating_add(t.len()).min(out.len());
+    out[start..end].copy_from_slice(&t[..end - start]);
 }
 
-// Stores one byte again and again from a place.
+// Stores of a byte `n` times what has room from a place on.
 fn fill(out: &mut [u8], at: usize, b: u8, n: usize)
-    requires { (at + n ≤ length out.old) × (length out.old < 2 ^ 21) }
     ensures { out.new ≡ sets out.old at (replicate n b) }
 {
-    let mut i = 0;
-    while i < n {
-        out[at + i] = b;
-        i += 1;
-    }
-}
-
-// Copies of a text what has room, where not all of it has.
-fn copy_part(out: &mut [u8], at: usize, t: &[u8])
-    requires { (length out.old < at + length t.now) × (length out.old < 2 ^ 21) }
-    ensures { out.new ≡ sets out.old at t.now }
-{
-    if at < out.len() {
-        let k = out.len() - at;
-        copy_to(out, at, &t[..k]);
-    }
-}
-
-// Stores one byte again and again from a place to the end.
-fn fill_up(out: &mut [u8], at: usize, b: u8)
-    requires { length out.old < 2 ^ 21 }
-    ensures { out.new ≡ sets out.old at (replicate (length out.old - at) b) }
-{
-    if at < out.len() {
-        let k = out.len() - at;
-        fill(out, at, b, k);
-    }
+    let start = at.min(out.len());
+    let end = at.saturating_add(n).min(out.len());
+    out[start..end].fill(b);
 }
 
 // A writer that has written nothing: columns are kept where lines are folded.
-pub fn fresh_writer(terms: Terms) -> Writer
-    ensures { fields result ≡ begun (settings_in terms) }
+#[tactic(auto, unfolding(crate::specs::Shown::begun, crate::specs::Shown::keeps))]
+pub fn fresh_writer(settings: &Settings) -> Writer
+    ensures { fields result ≡ begun settings.now }
 {
-    if terms.width() == 0 {
-        return Writer {
-            counts: 0,
-            state: 0,
-        };
-    }
     Writer {
         counts: 0,
-        state: TRACKS,
+        state: if settings.width == 0 { 0 } else { TRACKS },
     }
 }
 
 impl Writer {
-    // The same writer, made anew of its numbers: of what comes from a call the compiler then reads the numbers, and copies no memory.
-    pub fn anew(self) -> Self
-        ensures { result ≡ self }
-    {
-        Writer {
-            counts: self.counts,
-            state: self.state,
-        }
-    }
-
     // How many bytes were put.
     pub fn len(self) -> usize
         ensures { (result ≡ (fields self).len) × (result < 2 ^ 22) }
@@ -214,11 +112,12 @@ impl Writer {
         self.state / FLOW % FLOWS
     }
 
-    // Not 0 inside an inline key.
-    pub fn key(self) -> usize
-        ensures { result ≡ (fields self).key }
+    // Inside an inline key.
+    #[tactic(auto, using(crate::proofs::Kept::odd_bit))]
+    pub fn is_key(self) -> bool
+        ensures { from_bool result ≡ (fields self).key }
     {
-        self.state / KEY % 2
+        self.state / KEY % 2 != 0
     }
 
     // Columns are kept.
@@ -229,10 +128,10 @@ impl Writer {
     }
 
     // The byte put last.
-    fn last(self) -> usize
+    fn last(self) -> u8
         ensures { result ≡ (fields self).last }
     {
-        self.state / 256 % 256
+        (self.state / 256 % 256) as u8
     }
 
     // One more than where the last raw text ended without a line break, 0 at the start.
@@ -251,11 +150,10 @@ impl Writer {
         self
     }
 
-    pub fn with_key(mut self, n: usize) -> Self
-        requires { n < 2 }
-        ensures { pen result [] ≡ with_key n (pen self []) }
+    pub fn with_key(mut self, inside: bool) -> Self
+        ensures { pen result [] ≡ with_key (from_bool inside) (pen self []) }
     {
-        self.state = self.state / TRACKS * TRACKS + n * KEY + self.state % KEY;
+        self.state = self.state / TRACKS * TRACKS + usize::from(inside) * KEY + self.state % KEY;
         self
     }
 
@@ -285,43 +183,26 @@ impl Writer {
         self
     }
 
-    // The same after so many bytes, of which `edge` has the last one and what it was put over.
-    fn put_to(mut self, len: usize, edge: usize) -> Self
-        requires { (len < 2 ^ 22) × (edge < 65536) }
-        ensures { fields result ≡ put_to len (edge / 256) (edge % 256) (fields self) }
+    // The same after `n` bytes more, the last of which is `last`. `out` is as it was before them.
+    fn put_on(mut self, out: &[u8], n: usize, last: u8) -> Self
+        requires { (0 < n) × (length out.now < 2 ^ 21) }
+        ensures { fields result ≡ put_to (min ((fields self).len + n) (length out.now + 2)) last (get_or out.now ((fields self).len + n - 1) 0) (fields self) }
     {
-        self.counts = self.counts / RAW * RAW + len;
-        self.state = self.state / KEY * KEY + edge;
+        let end = self.len().saturating_add(n);
+        let under = out.get(end - 1).copied().unwrap_or(0);
+        self.counts = self.counts / RAW * RAW + end.min(out.len() + 2);
+        self.state = self.state / KEY * KEY + usize::from(last) * 256 + usize::from(under);
         self
     }
 
-    // The same after n bytes more.
-    fn put_on(mut self, n: usize, edge: usize) -> Self
-        requires { ((fields self).len + n < 2 ^ 22) × (edge < 65536) }
-        ensures { fields result ≡ put_to ((fields self).len + n) (edge / 256) (edge % 256) (fields self) }
-    {
-        self.counts += n;
-        self.state = self.state / KEY * KEY + edge;
-        self
-    }
-
-    // The same at the column after a text, or after one byte again and again.
-    fn past_text(self, most: usize, t: &[u8]) -> Self
-        requires { most < 2 ^ 28 }
-        ensures { fields result ≡ at_column (column_past (fields self) most t.now) (fields self) }
+    // The same at the column that `next` gives for its column, where columns are kept.
+    fn past<F: FnOnce(usize) -> usize>(self, next: F) -> Self
+        requires may { F.pre next (fields self).column }
+        requires short { (c : ℕ) → F.post next (fields self).column c → c < 2 ^ 28 }
+        ensures { (c : ℕ) → ((r : ℕ) → F.post next (fields self).column r → r ≡ c) → fields result ≡ at_column (when eqb (fields self).tracks 0 then (fields self).column else c) (fields self) }
     {
         if self.is_tracking() {
-            return self.at_column(column_over(self.column(), most, t));
-        }
-        self
-    }
-
-    fn past_again(self, most: usize, b: u8, n: usize) -> Self
-        requires { most < 2 ^ 28 }
-        ensures { fields result ≡ at_column (column_past (fields self) most (replicate n b)) (fields self) }
-    {
-        if self.is_tracking() {
-            return self.at_column(column_again(self.column(), most, b, n));
+            return self.at_column(next(self.column()));
         }
         self
     }
@@ -331,34 +212,25 @@ impl Writer {
         ensures { pen result out.new ≡ put1 (pen self out.old) b }
     {
         let most = out.len() + 2;
+        let w = self.past(|c| column_after(c, most, b, 1)).put_on(out, 1, b);
         let len = self.len();
-        let w = self.past_again(most, b, 1);
         if len < out.len() {
-            let edge = edge_of(b, out[len]);
             out[len] = b;
-            return w.put_on(1, edge);
         }
-        w.put_to(up_to(len, most), edge_of(b, 0))
+        w
     }
 
     pub fn text(self, out: &mut [u8], t: &[u8]) -> Self
         requires { length out.old < 2 ^ 21 }
         ensures { pen result out.new ≡ puts t.now (pen self out.old) }
     {
-        let n = t.len();
-        if n == 0 {
-            return self;
-        }
-        let len = self.len();
+        let Some(last) = t.last() else { return self };
         let most = out.len() + 2;
-        let w = self.past_text(most, t);
-        if has_room(len, n, out.len()) {
-            let edge = edge_of(t[n - 1], out[len + n - 1]);
-            copy_to(out, len, t);
-            return w.put_on(n, edge);
-        }
-        copy_part(out, len, t);
-        w.put_to(end_of(len, n, most), edge_of(t[n - 1], 0))
+        let w = self
+            .past(|c| column_over(c, most, t))
+            .put_on(out, t.len(), *last);
+        copy_to(out, self.len(), t);
+        w
     }
 
     // One byte again and again.
@@ -369,16 +241,10 @@ impl Writer {
         if n == 0 {
             return self;
         }
-        let len = self.len();
         let most = out.len() + 2;
-        let w = self.past_again(most, b, n);
-        if has_room(len, n, out.len()) {
-            let edge = edge_of(b, out[len + n - 1]);
-            fill(out, len, b, n);
-            return w.put_on(n, edge);
-        }
-        fill_up(out, len, b);
-        w.put_to(end_of(len, n, most), edge_of(b, 0))
+        let w = self.past(|c| column_after(c, most, b, n)).put_on(out, n, b);
+        fill(out, self.len(), b, n);
+        w
     }
 
     pub fn spaces(self, out: &mut [u8], n: usize) -> Self
@@ -388,11 +254,12 @@ impl Writer {
         self.again(out, b' ', n)
     }
 
+    #[tactic(auto, unfolding(crate::specs::Pen::line_ended))]
     pub fn end_line(self, out: &mut [u8]) -> Self
         requires { length out.old < 2 ^ 21 }
         ensures { pen result out.new ≡ line_ended (pen self out.old) }
     {
-        if self.last() == 10 {
+        if self.last() == b'\n' {
             return self;
         }
         self.byte(out, b'\n')
@@ -404,11 +271,10 @@ impl Writer {
         ensures { pen result out.new ≡ puts (hashed t.now) (pen self out.old) }
     {
         let w = self.byte(out, b'#');
-        if t.len() == 0 {
+        if t.is_empty() {
             return w;
         }
-        let w2 = w.byte(out, b' ');
-        w2.text(out, t)
+        w.byte(out, b' ').text(out, t)
     }
 
     // The inline comment of the node at `place`, unless it was the last one written.
@@ -420,9 +286,9 @@ impl Writer {
         if self.counts / INLINE == mark {
             return self;
         }
-        let w = self.spaces(out, at_least_one(before));
-        let w2 = w.hashed(out, t);
-        w2.with_inline(mark)
+        self.spaces(out, at_least_one(before))
+            .hashed(out, t)
+            .with_inline(mark)
     }
 
     // A raw text, and where it ended if it has no line break there.
@@ -452,39 +318,27 @@ impl Writer {
     }
 
     // The end of a file: its last line break is dropped, if it directly follows a raw text that has none of its own.
+    #[tactic(auto, unfolding(crate::specs::Pen::ended))]
     pub fn finish(self, out: &mut [u8]) -> Self
         ensures { pen result out.new ≡ ended (pen self out.old) }
     {
-        if self.raw() == 0 {
-            return self;
+        if self.raw() > 0 && self.len() == self.raw() && self.last() == b'\n' {
+            return self.dropped(out);
         }
-        if self.len() != self.raw() {
-            return self;
-        }
-        if self.last() != 10 {
-            return self;
-        }
-        self.dropped(out)
+        self
     }
 }
 
 pub fn at_least_one(n: usize) -> usize
     ensures { result ≡ max n 1 }
 {
-    if n == 0 {
-        return 1;
-    }
-    n
+    n.max(1)
 }
 
 // The text ends in LF or CR.
+#[tactic(auto, using(crate::proofs::Laws::some_closed, crate::proofs::Laws::none_closed))]
 fn ends_closed(t: &[u8]) -> bool
     ensures { result ≡ ends_closed t.now }
 {
-    let n = t.len();
-    if n == 0 {
-        return false;
-    }
-    let b = t[n - 1];
-    b == b'\n' || b == b'\r'
+    matches!(t.last(), Some(b'\n' | b'\r'))
 }

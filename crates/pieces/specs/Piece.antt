@@ -1,5 +1,5 @@
 -- What the program keeps of a piece of a quoted body: its kind, and what it spells.
-use Rattle.std.specs.Prelude.{ℕ, ◌+◌, ◌≤◌, ◌≡◌, get_or, eqb, [], ◌∷◌}
+use Rattle.std.specs.Prelude.{ℕ, ◌+◌, ◌≤◌, ◌≡◌, get_or, eqb, ltb, Bool, ◌||◌, Option, Some, None, [], ◌∷◌}
 use Rattle.std.proofs.Common.{arith}
 use Rattle.definition.specs.Base.{Bytes, when◌then◌else◌}
 use Rattle.laws.specs.Pieces.{Quote}
@@ -30,16 +30,16 @@ beside-few (Hex a) = omega arith
 beside-few (Latin b) = omega arith
 beside-few (Wide c) = omega arith
 
--- the letter of a short escape, 0 where there is none
-unfoldable pub letter_of : ℕ → ℕ
+-- the letter of a short escape, where there is one
+unfoldable pub letter_of : ℕ → Option ℕ
 letter_of a =
-    when eqb a 0 then 48
-    else when eqb a 9 then 116
-    else when eqb a 10 then 110
-    else when eqb a 13 then 114
-    else when eqb a 34 then 34
-    else when eqb a 92 then 92
-    else 0
+    when eqb a 0 then Some 48
+    else when eqb a 9 then Some 116
+    else when eqb a 10 then Some 110
+    else when eqb a 13 then Some 114
+    else when eqb a 34 then Some 34
+    else when eqb a 92 then Some 92
+    else None
 
 -- a `\u` is of FFFE or FFFF
 abbrev pub Sound : Piece → Type 0
@@ -65,3 +65,7 @@ pub record Own (q : Quote) (stop a : ℕ) : Type 0 where
   pub itself : (b c : ℕ) → q.piece a b c ≡ a ∷ []
   pub alone : (b c : ℕ) → q.more a b c ≡ 0
   pub other : a ≡ stop → ⊥
+
+-- between double quotes a byte begins an escape, at least before certain others
+abbrev pub marked : ℕ → Bool
+marked a = ltb a 0x20 || eqb a 34 || eqb a 92 || eqb a 0x7f || eqb a 0xc2 || eqb a 0xef

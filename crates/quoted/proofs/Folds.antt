@@ -3,12 +3,12 @@ use Prim.Native.Nat.{ℕ, zero, suc, ◌+◌, ◌-◌, ◌≤◌, ◌<◌}
 use native.Mathlib.Omega.{arith}
 use native.Mathlib.Numerals.{add-one}
 use mathlib.Core.Path.{◌≡◌, refl, sym, ap, ◌∙◌}
-use mathlib.Core.Bool.{Bool, true, false, not}
+use mathlib.Core.Bool.{Bool, true, false}
 use mathlib.Core.List.{[], ◌∷◌, ◌++◌}
 use lib.ListN.{length, get_or, drop, take, drop_of_length-le}
 use lib.Seq.{drop-cons, drop-drop}
 use lib.Dec.{eqb}
-use borrow.Author.Tests.{eq-eqb, ne_eqb, lt-ltb, le-ltb}
+use borrow.Author.Tests.{ne_eqb, lt-ltb, le-ltb}
 use Rattle.pen.specs.Pen.{Pen, puts, put1, puts-append}
 use Rattle.pen.specs.Runs.{Run, parted, run_length}
 use Rattle.definition.specs.Base.{Bytes, spaces}
@@ -24,21 +24,6 @@ use Rattle.quoted.specs.declared.Fold.{Fold}
 -- what holds of a byte and the text after it holds at a place of a text
 along : (F : Bytes → ℕ → Bytes → Type 0) (s : Bytes) (i : ℕ) → i < length s → ((a : ℕ) (t : Bytes) → F (a ∷ t) a t) → F (drop i s) (get_or s i 0) (drop (i + 1) s)
 along F s i h k = rw (add-one, drop-cons s i 0 h) (k (get_or s i 0) (drop (suc i) s))
-
-pub break-after : (after : Bool) (b : ℕ) (t : Bytes) → after ≡ true → false ≡ breakable after b t
-unfolding breakable
-break-after after b t e = rw e
-
-pub break-other : (after : Bool) (b : ℕ) (t : Bytes) → (b ≡ 32 → ⊥) → false ≡ breakable after b t
-break-other after b t n = sym (no-break after b t (ne_eqb b 32 n))
-
-pub break-inside : (after : Bool) (b : ℕ) (s : Bytes) (j : ℕ) → after ≡ false → b ≡ 32 → j < length s → not (eqb (get_or s j 0) 32) ≡ breakable after b (drop j s)
-unfolding breakable
-break-inside after b s j e g h = rw (e, eq-eqb b 32 g, drop-cons s j 0 h)
-
-pub break-last : (after : Bool) (b : ℕ) (s : Bytes) (j : ℕ) → after ≡ false → b ≡ 32 → length s ≤ j → false ≡ breakable after b (drop j s)
-unfolding breakable
-break-last after b s j e g h = rw (e, eq-eqb b 32 g, drop_of_length-le s h)
 
 -- bytes that were spoken for are passed over
 ahead-skip : (q : Quote) (k : ℕ) (after : Bool) (s : Bytes) → ahead_of q (λ b. 1) k after s ≡ ahead_of q (λ b. 1) 0 after (drop k s)

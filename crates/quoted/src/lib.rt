@@ -8,12 +8,12 @@ ghost use Rattle.definition.specs.Settings.{folds};
 ghost use Rattle.laws.specs.Pieces.{quote_by, body};
 ghost use Rattle.laws.specs.Folded.{ahead_of, folded_of};
 ghost use Rattle.laws.specs.Leaf.{quoted_at, folded_at, styled_at};
-ghost use Rattle.terms.specs.Terms.{settings_in};
 ghost use Rattle.quoted.specs.Turns.{Further, Measured, Passing, Onward, folding};
 
+use definition::Settings;
+use laws::byte_or;
 use pen::Writer;
 use pieces::{columns, others, piece_at, put_piece, put_single, quote_of, run_end};
-use terms::Terms;
 
 #[derive(Clone, Copy)]
 pub struct Fold {
@@ -66,31 +66,20 @@ pub fn put_body(w: Writer, out: &mut [u8], t: &[u8], single: bool) -> Writer
     requires { (length t.now ≤ 65536) × (length out.old < 2 ^ 21) }
     ensures { pen result out.new ≡ puts (body (quote_by single) 0 t.now) (pen w out.old) }
 {
-    let mut g = Going { w: w, at: 0 };
+    let mut g = Going { w, at: 0 };
     while g.at < t.len() {
-        let w = g.w;
-        let i = g.at;
-        g = body_turn(w, out, t, i, single);
+        g = body_turn(g.w, out, t, g.at, single);
     }
     g.w
 }
 
 // Whether a breakable space stands at a place. `after`: a space, or nothing, stands before it.
+#[tactic(auto, unfolding(definition::specs::Fold::breakable))]
 fn breakable_at(t: &[u8], i: usize, after: bool) -> bool
     requires { i < length t.now }
     ensures { result ≡ breakable after (get_or t.now i 0) (drop (i + 1) t.now) }
 {
-    if after {
-        return false;
-    }
-    if t[i] != b' ' {
-        return false;
-    }
-    let j = i + 1;
-    if j < t.len() {
-        return t[j] != b' ';
-    }
-    false
+    !after && t[i] == b' ' && byte_or(t, i + 1, b' ') != b' '
 }
 
 // Whether a text has a breakable space.
@@ -98,13 +87,11 @@ pub fn has_breakable(t: &[u8]) -> bool
     ensures { result ≡ has_breakable t.now }
 {
     let mut after = true;
-    let mut i = 0;
-    while i < t.len() {
+    for i in 0..t.len() {
         if breakable_at(t, i, after) {
             return true;
         }
         after = t[i] == b' ';
-        i += 1;
     }
     false
 }
@@ -150,11 +137,10 @@ fn ahead(t: &[u8], from: usize, single: bool) -> usize
         after: true,
     };
     while g.at < t.len() {
-        let i = g.at;
-        if breakable_at(t, i, g.after) {
+        if breakable_at(t, g.at, g.after) {
             return g.n;
         }
-        g = scan_turn(g, t, i, single);
+        g = scan_turn(g, t, g.at, single);
     }
     g.n
 }
@@ -175,20 +161,16 @@ fn fold_gap(l: Line, out: &mut [u8], t: &[u8], i: usize, single: bool, f: Fold) 
     ensures { Onward (quote_by single) f t.now i l out.old result out.new }
 {
     let need = l.col + 1 + ahead(t, i + 1, single);
-    let w = l.w;
     if need > f.width {
-        let w = w.byte(out, b'\n');
-        let w = w.spaces(out, f.indent);
         return Line {
-            w: w,
+            w: l.w.byte(out, b'\n').spaces(out, f.indent),
             col: f.indent,
             at: i + 1,
             after: true,
         };
     }
-    let w = w.byte(out, b' ');
     Line {
-        w: w,
+        w: l.w.byte(out, b' '),
         col: l.col + 1,
         at: i + 1,
         after: true,
@@ -202,10 +184,8 @@ fn fold_piece(l: Line, out: &mut [u8], t: &[u8], i: usize, single: bool, f: Fold
     ensures { Onward (quote_by single) f t.now i l out.old result out.new }
 {
     let p = piece_at(t, i, single);
-    let w = l.w;
-    let w = put_piece(w, out, p);
     Line {
-        w: w,
+        w: put_piece(l.w, out, p),
         col: l.col + columns(p),
         at: i + 1 + others(p),
         after: t[i] == b' ',
@@ -219,9 +199,8 @@ fn fold_turn(l: Line, out: &mut [u8], t: &[u8], i: usize, single: bool, f: Fold)
 {
     let j = run_end(t, i, b' ', single);
     if j > i {
-        let w = l.w;
         return Line {
-            w: w.text(out, &t[i..j]),
+            w: l.w.text(out, &t[i..j]),
             col: l.col + (j - i),
             at: j,
             after: false,
@@ -246,26 +225,23 @@ pub fn put_folded(
     ensures { pen result out.new ≡ puts (folded_of (quote_by single) (folding f) 0 true start t.now) (pen w out.old) }
 {
     let mut l = Line {
-        w: w,
+        w,
         col: start,
         at: 0,
         after: true,
     };
     while l.at < t.len() {
-        let i = l.at;
-        l = fold_turn(l, out, t, i, single, f);
+        l = fold_turn(l, out, t, l.at, single, f);
     }
     l.w
 }
 
 // Whether lines are folded: outside keys, where a width is set.
-pub fn will_fold(terms: Terms, key: bool) -> bool
-    ensures { result ≡ folds (settings_in terms) key }
+#[tactic(auto, unfolding(definition::specs::Settings::folds))]
+pub fn will_fold(settings: &Settings, key: bool) -> bool
+    ensures { result ≡ folds settings.now key }
 {
-    if key {
-        return false;
-    }
-    terms.width() > 0
+    !key && settings.width > 0
 }
 
 // A text in quotes, not folded.
@@ -274,41 +250,45 @@ fn put_quoted(w: Writer, out: &mut [u8], t: &[u8], single: bool) -> Writer
     ensures { pen result out.new ≡ puts (quoted_at single t.now) (pen w out.old) }
 {
     let q = quote_of(single);
-    let w = w.byte(out, q);
-    let w = put_body(w, out, t, single);
-    w.byte(out, q)
+    put_body(w.byte(out, q), out, t, single).byte(out, q)
 }
 
 // A text in quotes, folded: continued lines stand at the quote's column, but never at 0.
-fn put_quoted_folded(w: Writer, out: &mut [u8], terms: Terms, t: &[u8], single: bool) -> Writer
+fn put_quoted_folded(
+    w: Writer,
+    out: &mut [u8],
+    settings: &Settings,
+    t: &[u8],
+    single: bool,
+) -> Writer
     requires { (length t.now ≤ 65536) × (length out.old < 2 ^ 21) }
-    ensures { pen result out.new ≡ puts (folded_at (settings_in terms) single t.now (fields w).column) (pen w out.old) }
+    ensures { pen result out.new ≡ puts (folded_at settings.now single t.now (fields w).column) (pen w out.old) }
 {
     let column = w.column();
     let f = Fold {
         indent: pen::at_least_one(column),
-        width: terms.width(),
+        width: settings.width,
     };
     let q = quote_of(single);
-    let w = w.byte(out, q);
-    let w = put_folded(w, out, t, single, column + 1, f);
-    w.byte(out, q)
+    put_folded(w.byte(out, q), out, t, single, column + 1, f).byte(out, q)
 }
 
 // A text in quotes, folded where lines are.
+#[tactic(auto, unfolding(laws::specs::Leaf::styled_at))]
 pub fn put_styled(
     w: Writer,
     out: &mut [u8],
-    terms: Terms,
+    settings: &Settings,
     key: bool,
     single: bool,
     t: &[u8],
 ) -> Writer
     requires { (length t.now ≤ 65536) × (length out.old < 2 ^ 21) }
-    ensures { pen result out.new ≡ puts (styled_at (settings_in terms) key single t.now (fields w).column) (pen w out.old) }
+    ensures { pen result out.new ≡ puts (styled_at settings.now key single t.now (fields w).column) (pen w out.old) }
 {
-    if will_fold(terms, key) {
-        return put_quoted_folded(w, out, terms, t, single);
+    if will_fold(settings, key) {
+        put_quoted_folded(w, out, settings, t, single)
+    } else {
+        put_quoted(w, out, t, single)
     }
-    put_quoted(w, out, t, single)
 }

@@ -62,35 +62,25 @@ fn answer_of(head: &[u8], deck: &[u8], pool: &[u8], out: &mut [u8]) -> Answer {
     }
 }
 
-// The five numbers of the answer.
-fn same_answer(head: &[u8], a: Answer) -> bool {
-    if a.number != long(head, 36) {
-        return false;
+// The answer that the case has.
+fn wanted(head: &[u8]) -> Answer {
+    Answer {
+        number: long(head, 36),
+        place: long(head, 40),
+        length: long(head, 44),
+        count: long(head, 48),
+        modified: long(head, 52) != 0,
     }
-    if a.place != long(head, 40) {
-        return false;
-    }
-    if a.length != long(head, 44) {
-        return false;
-    }
-    if a.count != long(head, 48) {
-        return false;
-    }
-    a.modified == (long(head, 52) != 0)
 }
 
 // The call on deck and pool gives the answer that the case has, and leaves the output that it has.
 fn agrees(head: &[u8], deck: &[u8], pool: &[u8], out: &mut [u8]) -> bool {
     coded::fill(out);
     let a = answer_of(head, deck, pool, out);
-    if !same_answer(head, a) {
-        return false;
-    }
     let h = coded::hash(out);
-    if h % 4294967296 != long(head, 56) as u64 {
-        return false;
-    }
-    h / 4294967296 == long(head, 60) as u64
+    a == wanted(head)
+        && h % 4294967296 == long(head, 56) as u64
+        && h / 4294967296 == long(head, 60) as u64
 }
 
 // Replays the case that a slice begins with.
@@ -98,21 +88,14 @@ fn holds(head: &[u8], deck: &mut [u8], pool: &mut [u8], out: &mut [u8]) -> bool 
     let mid = 72 + long(head, 24);
     let end = mid + long(head, 32);
     let room = long(head, 12);
-    if end > head.len() {
-        return false;
-    }
-    if room > out.len() {
+    if end > head.len() || room > out.len() {
         return false;
     }
     let d = coded::expand(&head[72..mid], deck);
     let p = coded::expand(&head[mid..end], pool);
-    if d != long(head, 20) {
-        return false;
-    }
-    if p != long(head, 28) {
-        return false;
-    }
-    agrees(head, &deck[..d], &pool[..p], &mut out[..room])
+    d == long(head, 20)
+        && p == long(head, 28)
+        && agrees(head, &deck[..d], &pool[..p], &mut out[..room])
 }
 
 // ---- the list
@@ -123,22 +106,19 @@ fn counted(t: Tally, head: &[u8], deck: &mut [u8], pool: &mut [u8], out: &mut [u
 {
     if deck::byte(head, 0) > LAST_CALL {
         return Tally {
-            good: t.good,
-            bad: t.bad,
             other: t.other + 1,
+            ..t
         };
     }
     if holds(head, deck, pool, out) {
         return Tally {
             good: t.good + 1,
-            bad: t.bad,
-            other: t.other,
+            ..t
         };
     }
     Tally {
-        good: t.good,
         bad: t.bad + 1,
-        other: t.other,
+        ..t
     }
 }
 
@@ -147,10 +127,7 @@ fn case_end(head: &[u8]) -> usize
     ensures { result ≤ length head.now }
 {
     let end = 72 + long(head, 24) + long(head, 32);
-    if end > head.len() {
-        return head.len();
-    }
-    end
+    end.min(head.len())
 }
 
 // Every case that the list says it has is counted once.
@@ -163,12 +140,10 @@ pub fn replay(list: &[u8], deck: &mut [u8], pool: &mut [u8], out: &mut [u8]) -> 
         bad: 0,
         other: 0,
     };
-    let mut at: usize = 4;
-    let mut left = long(list, 0);
-    while left > 0 {
+    let mut at = 4;
+    for _ in 0..long(list, 0) {
         t = counted(t, &list[at..], deck, pool, out);
         at += case_end(&list[at..]);
-        left -= 1;
     }
     t
 }

@@ -1,12 +1,10 @@
 -- The tests of a text by one test at each place, and a scalar from its parts.
-use Prim.Native.Nat.{ℕ, suc, ◌+◌, ◌≤◌, ◌<◌}
+use Prim.Native.Nat.{ℕ, ◌≤◌, ◌<◌}
 use native.Mathlib.Omega.{arith}
-use native.Mathlib.Numerals.{add-one}
-use mathlib.Core.Path.{◌≡◌, refl, sym, ap, ◌∙◌}
+use mathlib.Core.Path.{◌≡◌, refl, sym}
 use mathlib.Core.Bool.{Bool, true, false, false≢true, not, ◌&&◌, ◌||◌}
 use mathlib.Core.List.{[], ◌∷◌}
-use lib.ListN.{length, get_or, drop}
-use lib.Seq.{drop-cons, get_or-drop}
+use lib.ListN.{length, get_or}
 use lib.Dec.{eqb, ltb}
 use borrow.Author.Tests.{ne_eqb, le-ltb, lt-ltb}
 use Rattle.definition.specs.Base.{Bytes, when◌then◌else◌, any, has, within}
@@ -17,27 +15,13 @@ use Rattle.definition.specs.Settings.{weight_of}
 use Rattle.definition.specs.Scalar.{ends_key, unsafe_in_flow}
 use Rattle.definition.specs.declared.Settings.{Settings}
 use Rattle.laws.specs.Pieces.{is_c1, is_non, non_printable_at}
-use Rattle.laws.specs.Places.{any_at}
 use Rattle.laws.specs.Leaf.{capable_at, quotable_at}
 use Rattle.laws.specs.Computed.{all}
 use Rattle.pen.specs.Pen.{Pen, put1, puts}
-use Rattle.scalar.specs.Tests.{some_at, refused_at, flow_mark, unsafe_at}
+use Rattle.laws.specs.Somewhere.{some_at, any_as_some}
+use Rattle.scalar.specs.Tests.{refused_at, flow_mark, unsafe_at}
 
 -- ---- a test at each place
-
-module _ (d : ℕ) (f : ℕ → ℕ → ℕ → Bool) (s : Bytes) (i : ℕ) (h : i < length s) where
-  place : some_at d f (drop i s) ≡ (when f (get_or s i d) (get_or s (i + 1) d) (get_or s (i + 2) d) then true else some_at d f (drop (i + 1) s))
-  unfolding some_at
-  place =
-      let x : get_or (drop (suc i) s) 0 d ≡ get_or s (i + 1) d = get_or-drop (suc i) s 0 d ∙ ap (λ (n : ℕ). get_or s n d) (omega arith) in
-      let y : get_or (drop (suc i) s) 1 d ≡ get_or s (i + 2) d = get_or-drop (suc i) s 1 d ∙ ap (λ (n : ℕ). get_or s n d) (omega arith) in
-      rw (drop-cons s i d h, x, y, add-one)
-
-  pub found : f (get_or s i d) (get_or s (i + 1) d) (get_or s (i + 2) d) ≡ true → some_at d f (drop i s) ≡ some_at d f s → some_at d f s ≡ true
-  found e g = sym g ∙ place ∙ rw e
-
-  pub passed : f (get_or s i d) (get_or s (i + 1) d) (get_or s (i + 2) d) ≡ false → some_at d f (drop i s) ≡ some_at d f s → some_at d f (drop (i + 1) s) ≡ some_at d f s
-  passed e g = sym (rw e at place) ∙ g
 
 either : (x : Bool) → (x || true) ≡ true
 either true = refl
@@ -68,11 +52,6 @@ some_or d f g (a ∷ s) = go (f a) (g a (get_or s 0 d) (get_or s 1 d)) (some_or 
 
 -- ---- what single quotes take
 
-any_some : (f : ℕ → ℕ → ℕ → Bool) (s : Bytes) → any_at f s ≡ some_at 0 f s
-unfolding any_at some_at
-any_some f [] = refl
-any_some f (a ∷ s) = rw (any_some f s)
-
 none_of : (x a b c d : Bool) → (not x && (not a && not b && not c && not d)) ≡ not (x || a || b || c || d)
 none_of true a b c d = refl
 none_of false true b c d = refl
@@ -88,13 +67,13 @@ quotable-by t =
       any-or (λ a. eqb 39 a || eqb 10 a || eqb 13 a) (λ a. ltb a 0x20 || eqb a 0x7f) t,
       any-or (λ a. eqb 39 a || eqb 10 a) (eqb 13) t,
       any-or (eqb 39) (eqb 10) t,
-      any_some non_printable_at t,
+      any_as_some non_printable_at t,
     )
     (none_of (any (eqb 39) t) (any (eqb 10) t) (any (eqb 13) t) (any (λ b. ltb b 0x20 || eqb b 0x7f) t) (some_at 0 non_printable_at t))
 
 -- how the program asks
-abbrev pub refused_low : ℕ → Bool
-refused_low a = when ltb a 0x20 then true else when eqb a 39 then true else eqb a 0x7f
+abbrev pub low : ℕ → Bool
+low a = ltb a 0x20 || eqb a 39 || eqb a 0x7f
 
 abbrev same : Bool → Bool → Bool
 same true b = b
@@ -105,15 +84,15 @@ same-is true b e = sym e
 same-is false true e = absurd (false≢true e)
 same-is false false e = refl
 
-pub refused-low : (a b c : ℕ) → a < 0x80 → refused_low a ≡ refused_at a b c
+pub refused_low : (a b c : ℕ) → a < 0x80 → refused_at a b c ≡ low a
 unfolding refused_at non_printable_at non_printable within
-refused-low a b c h =
+refused_low a b c h =
     rw (lt-ltb a 0x80 h)
-    (same-is _ _ (all (λ k. same (refused_low k) (eqb 39 k || eqb 10 k || eqb 13 k || (ltb k 0x20 || eqb k 0x7f) || non_printable k)) 0x80 refl a h))
+    (sym (same-is _ _ (all (λ k. same (low k) (eqb 39 k || eqb 10 k || eqb 13 k || (ltb k 0x20 || eqb k 0x7f) || non_printable k)) 0x80 refl a h)))
 
-pub refused-high : (a b c : ℕ) → 0x80 ≤ a → (is_c1 a b || is_non a b c) ≡ refused_at a b c
+pub refused_high : (a b c : ℕ) → 0x80 ≤ a → refused_at a b c ≡ (is_c1 a b || is_non a b c)
 unfolding refused_at non_printable_at
-refused-high a b c h =
+refused_high a b c h =
     rw (
       ne_eqb 39 a (λ (e : 39 ≡ a). omega arith),
       ne_eqb 10 a (λ (e : 10 ≡ a). omega arith),
@@ -146,10 +125,10 @@ unsafe-by t = rw (some_or SP flow_mark (λ a b c. eqb a ':' && eqb b SP) t, any-
 
 -- ---- every byte takes one column
 
-pub size-length : (s : Settings) (t : Bytes) → size (weight_of s) t ≡ length t
+pub size_length : (s : Settings) (t : Bytes) → size (weight_of s) t ≡ length t
 unfolding size weight_of
-size-length s [] = refl
-size-length s (b ∷ t) = rw (size-length s t) (omega arith)
+size_length s [] = refl
+size_length s (b ∷ t) = rw (size_length s t) (omega arith)
 
 -- ---- a separator, byte after byte
 

@@ -1,13 +1,7 @@
 -- Tests of a text that look at a place and the two bytes after it: each is one test, passed at some place.
-use Rattle.std.specs.Prelude.{ℕ, Bool, true, false, ◌&&◌, ◌||◌, [], ◌∷◌, get_or, eqb, ltb}
-use Rattle.definition.specs.Base.{Bytes, when◌then◌else◌}
+use Rattle.std.specs.Prelude.{ℕ, Bool, ◌&&◌, ◌||◌, eqb, ltb}
 use Rattle.definition.specs.Ascii.{LF, CR, SP, APOSTROPHE, COMMA, ':', '[', ']', OPEN, CLOSE}
 use Rattle.laws.specs.Pieces.{non_printable_at}
-
--- the test passes at some place; `d` stands past the end
-unfoldable pub some_at : ℕ → (ℕ → ℕ → ℕ → Bool) → Bytes → Bool
-some_at d f [] = false
-some_at d f (a ∷ s) = let r = some_at d f s in when f a (get_or s 0 d) (get_or s 1 d) then true else r
 
 -- single quotes do not take what stands here
 unfoldable pub refused_at : ℕ → ℕ → ℕ → Bool

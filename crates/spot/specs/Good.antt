@@ -23,7 +23,7 @@ use Rattle.comments.specs.Runs.{Short}
 use Rattle.spot.specs.declared.Body.{Body}
 use Rattle.spot.specs.declared.Body.TheVariants as body
 use Rattle.spot.specs.declared.Spot.{Spot}
-use Rattle.spot.specs.Spot.{body_of, spot_of, spot_at}
+use Rattle.spot.specs.Spot.{count_in, body_of, spot_of, spot_at}
 
 -- ---- runs
 
@@ -154,13 +154,6 @@ module _ (deck : Bytes) where
       )
 
 -- ---- how many members a collection has
-
-unfoldable pub count_in : Body → ℕ
-count_in body.Null = 0
-count_in (body.Scalar w) = 0
-count_in (body.Alias t) = 0
-count_in (body.Sequence g) = g.count
-count_in (body.Mapping g) = g.count
 
 module _ (deck : Bytes) (bytes : (k : ℕ) → get_or deck k 0 < 256) where
   few-group : (at : ℕ) → (group_at deck at).count < 65536

@@ -1,5 +1,5 @@
 -- A node by what the emitter takes of it. The tree at a cursor is such a node, with the trees at its children's cursors.
-use Rattle.std.specs.Prelude.{◌≡◌, ℕ, ◌≤◌, length}
+use Rattle.std.specs.Prelude.{◌≡◌, ℕ, ◌≤◌, Bool, true, false, length}
 use Rattle.std.proofs.Math.Path.{refl}
 use Rattle.std.proofs.Common.{ap, ◌∙◌}
 use Rattle.definition.specs.Base.{Bytes}
@@ -15,13 +15,21 @@ use Rattle.spot.specs.declared.Body.{Body}
 use Rattle.spot.specs.declared.Body.TheVariants as body
 use Rattle.spot.specs.declared.Spot.{Spot}
 
--- a number for each case
-unfoldable pub case_of : Body → ℕ
-case_of body.Null = 0
-case_of (body.Scalar w) = 1
-case_of (body.Alias t) = 2
-case_of (body.Sequence g) = 3
-case_of (body.Mapping g) = 4
+-- its members are pairs
+unfoldable pub pairs_in : Body → Bool
+pairs_in body.Null = false
+pairs_in (body.Scalar w) = false
+pairs_in (body.Alias t) = false
+pairs_in (body.Sequence g) = false
+pairs_in (body.Mapping g) = true
+
+-- how many members a collection has; a leaf has none
+unfoldable pub count_in : Body → ℕ
+count_in body.Null = 0
+count_in (body.Scalar w) = 0
+count_in (body.Alias t) = 0
+count_in (body.Sequence g) = g.count
+count_in (body.Mapping g) = g.count
 
 unfoldable pub body_of : Record → Body
 body_of (is.Tag t) = body.Null

@@ -1,9 +1,9 @@
 // A node as the emitter takes it: what its leading records say, what it is, its place, and where its children begin.
 #![tactic(auto)]
 
-ghost use Rattle.std.specs.Prelude.{◌≡◌, ◌≤◌, length};
+ghost use Rattle.std.specs.Prelude.{◌≡◌, ◌<◌, ◌≤◌, length};
 ghost use Rattle.definition.specs.Records.{record_at};
-ghost use Rattle.spot.specs.Spot.{body_of, case_of, spot_at};
+ghost use Rattle.spot.specs.Spot.{body_of, pairs_in, count_in, spot_at};
 
 use definition::{Cursor, Group, Text, Words};
 use node::Lead;
@@ -17,16 +17,24 @@ pub enum Body {
     Mapping(Group),
 }
 
-// A number for each case: 0 a null, 1 a scalar, 2 an alias, 3 a sequence, 4 a mapping.
-pub fn case_of(body: Body) -> usize
-    ensures { result ≡ case_of body }
-{
-    match body {
-        Body::Null => 0,
-        Body::Scalar(_) => 1,
-        Body::Alias(_) => 2,
-        Body::Sequence(_) => 3,
-        Body::Mapping(_) => 4,
+impl Body {
+    // A mapping: its members are pairs.
+    #[tactic(auto, unfolding(crate::specs::Spot::pairs_in))]
+    pub fn is_mapping(&self) -> bool
+        ensures { result ≡ pairs_in self.now }
+    {
+        matches!(self, Body::Mapping(_))
+    }
+
+    // How many members a collection has; a leaf has none.
+    #[tactic(auto, unfolding(crate::specs::Spot::count_in))]
+    pub fn count(&self) -> usize
+        ensures { result ≡ count_in self.now }
+    {
+        match self {
+            Body::Sequence(g) | Body::Mapping(g) => g.count,
+            _ => 0,
+        }
     }
 }
 
@@ -55,8 +63,9 @@ fn body_at(deck: &[u8], c: Cursor) -> Body
 
 // The node at a cursor.
 pub fn spot_at(deck: &[u8], c: Cursor) -> Spot
-    requires { (c.at ≤ length deck.now) × (length deck.now ≤ 65536) }
-    ensures { result ≡ spot_at deck.now c }
+    requires { c.at ≤ length deck.now }
+    ensures is { result ≡ spot_at deck.now c }
+    ensures few { count_in result.body < 65536 }
 {
     let front = node::front_at(deck, c);
     let lead = front.lead;

@@ -1,11 +1,9 @@
 -- `expand` stays inside what is coded and inside the output.
-use Prim.Native.Nat.{◌-◌, ◌≤◌}
-use mathlib.Core.Path.{◌≡◌}
-use lib.ListN.{length}
+use Rattle.std.proofs.Common.{◌≤◌, length}
 use Rattle.coded.proofs.expand.Given as goal
 
-abbrev pub invariant-loop-at : goal.invariant-loop-at
-invariant-loop-at l = (l.at ≤ length l.coded) × (l.to ≤ length l.out) × (length l.out ≡ length l.initial.out)
+abbrev pub invariant-loop-head : goal.invariant-loop-head
+invariant-loop-head l = l.to ≤ length l.out
 
-abbrev pub decreases-loop-at : goal.decreases-loop-at
-decreases-loop-at l = length l.coded - l.at
+abbrev pub decreases-loop-head : goal.decreases-loop-head
+decreases-loop-head l = length l.rest

@@ -12,4 +12,4 @@ returns-then-is_marked c = draws-yes _ _ _ (sym c.is_marked.ensures ∙ c.if-is_
 
 pub returns : goal.returns
 unfolding above_dash repeated kept_of layout_of
-returns c = draws-no _ _ _ (sym c.is_marked.ensures ∙ c.if-is_marked.false) c.put_heads.ensures
+returns c = draws-no _ _ _ (sym c.is_marked.ensures ∙ c.if-is_marked.false) c.put_repeated-2.ensures

@@ -1,22 +1,22 @@
--- `document::put_documents` meets its contract.
 use native.Mathlib.Omega.{arith}
-use Rattle.document.proofs.Laws.{file-start, file-turn, file-end}
+use mathlib.Core.Path.{refl}
+use Rattle.document.proofs.Laws.{first-left, next-left, not-first, left-none, left-more, file-start, file-turn, file-end}
 use Rattle.document.proofs.put_documents.Goals as goal
 
-pub loop-left-init : goal.loop-left-init
-loop-left-init c = file-start _ _ _ _ _ _ _ c.requires
+pub loop-k-init : goal.loop-k-init
+loop-k-init c = rw (first-left _) (file-start _ _ _ _ _ _ _ c.requires)
 
 pub put_document-e-requires : goal.put_document-e-requires
-put_document-e-requires c = c.loop-left.invariant.calm
+put_document-e-requires c = c.loop-k.invariant.calm
 
-pub loop-left-smaller : goal.loop-left-smaller
-loop-left-smaller c = c.documents_left-left.ensures.1
+pub loop-k-preserved : goal.loop-k-preserved
+loop-k-preserved c = rw (next-left _ _, not-first _) (file-turn _ _ _ _ _ _ _ _ _ _ _ _ _ _ c.loop-k.invariant (let h = c.loop-k-test.true in omega (arith, h)) c.put_document-e.ensures (left-more c.args.given.now.settings _ c.args.given.now.pool.now _ _ c.if-given-here.false))
 
-pub loop-left-preserved : goal.loop-left-preserved
-loop-left-preserved c = file-turn _ _ _ _ _ _ _ _ _ _ _ _ _ _ c.loop-left.invariant c.loop-left-test.true c.put_document-e.ensures c.documents_left-left.ensures.0
+pub returns-then-given-here : goal.returns-then-given-here
+returns-then-given-here c = file-end _ _ _ _ _ _ _ _ _ _ _ (file-turn _ _ _ _ _ _ _ _ _ _ _ _ _ _ c.loop-k.invariant (let h = c.loop-k-test.true in omega (arith, h)) c.put_document-e.ensures (left-none c.args.given.now.settings _ c.args.given.now.pool.now _ _ c.if-given-here.true)) refl
 
 pub shape_of-out : goal.shape_of-out
-shape_of-out c = c.loop-left.invariant.size
+shape_of-out c = c.loop-k.invariant.size
 
 pub returns : goal.returns
-returns c = file-end _ _ _ _ _ _ _ _ _ _ _ c.loop-left.invariant (let z = c.loop-left-test.false in omega arith)
+returns c = file-end _ _ _ _ _ _ _ _ _ _ _ c.loop-k.invariant (let z = c.loop-k-test.false in omega arith)

@@ -1,11 +1,8 @@
--- `document::put_documents` meets its contract.
-use Rattle.terms.specs.Terms.{settings_in}
+use Prim.Native.Nat.{◌-◌}
+use lib.Dec.{eqb}
 use Rattle.pen.specs.Pen.{pen}
 use Rattle.document.proofs.Laws.{Pending}
 use Rattle.document.proofs.put_documents.Given as goal
 
-abbrev pub invariant-loop-left : goal.invariant-loop-left
-invariant-loop-left l = Pending (settings_in l.terms) l.deck l.pool l.passed (pen l.initial.v l.initial.out) l.initial.left l.initial.here (pen l.v l.out) l.first l.left l.here
-
-abbrev pub decreases-loop-left : goal.decreases-loop-left
-decreases-loop-left l = l.left
+abbrev pub invariant-loop-k : goal.invariant-loop-k
+invariant-loop-k l = Pending l.given.settings l.given.deck.now l.given.pool.now l.passed (pen l.initial.v l.initial.out) l.n l.initial.here (pen l.v l.out) (eqb l.k 0) (l.n - l.k) l.here

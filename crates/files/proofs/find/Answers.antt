@@ -1,18 +1,18 @@
 -- `files::find` meets its contract.
-use Rattle.files.proofs.Laws.{finding-first, found-stop, found-more, found_none}
+use mathlib.Core.Path.{ap}
+use Rattle.spot.specs.declared.Spot.{Spot}
+use Rattle.spot.specs.Spot.{spot_of, spot_at}
+use Rattle.files.specs.Scan.{step_at}
+use Rattle.files.proofs.Laws.{found-stop, found-more, found_none}
 use Rattle.files.proofs.find.Goals as goal
 
-pub loop-left-init : goal.loop-left-init
-loop-left-init c = finding-first c.args.deck.now _ c.args.c c.requires.0
+pub returns-in-Some : goal.returns-in-Some
+unfolding step_at spot_of spot_at
+returns-in-Some c = found-stop _ _ _ _ _ _ c.loop.invariant c.loop-test.true (ap (λ (x : Spot). x.next) c.spot_at.ensures.is) c.in-Some.ensures
 
-pub look-found-requires : goal.look-found-requires
-look-found-requires c = (c.loop-left.invariant.here, c.requires.1)
-
-pub returns-then-found-ne0 : goal.returns-then-found-ne0
-returns-then-found-ne0 c = found-stop c.args.deck.now c.args.c c.loop-left.left c.loop-left.here _ c.loop-left.invariant c.loop-left-test.true c.look-found.ensures c.if-found-ne0.true
-
-pub loop-left-preserved : goal.loop-left-preserved
-loop-left-preserved c = found-more c.args.deck.now _ c.args.c c.loop-left.left c.loop-left.here _ c.loop-left.invariant c.loop-left-test.true c.look-found.ensures c.if-found-ne0.false
+pub loop-preserved : goal.loop-preserved
+unfolding step_at spot_of spot_at
+loop-preserved c = found-more _ _ _ _ _ _ c.loop.invariant c.loop-test.true (ap (λ (x : Spot). x.next) c.spot_at.ensures.is) c.in_default.ensures
 
 pub returns : goal.returns
-returns c = found_none c.args.deck.now c.args.c c.loop-left.left c.loop-left.here c.loop-left.invariant c.loop-left-test.false
+returns c = found_none _ _ _ _ c.loop.invariant c.loop-test.false

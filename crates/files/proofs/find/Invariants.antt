@@ -1,9 +1,6 @@
--- `files::find` meets its contract.
+-- `files::find`: the heads that are left come to what all of them do.
 use Rattle.files.proofs.Laws.{Finding}
 use Rattle.files.proofs.find.Given as goal
 
-abbrev pub invariant-loop-left : goal.invariant-loop-left
-invariant-loop-left l = Finding l.deck l.initial.left l.initial.here l.left l.here
-
-abbrev pub decreases-loop-left : goal.decreases-loop-left
-decreases-loop-left l = l.left
+abbrev pub invariant-loop : goal.invariant-loop
+invariant-loop l = Finding l.deck l.initial.here l.end l.counter l.here

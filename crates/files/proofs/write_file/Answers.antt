@@ -1,16 +1,18 @@
 -- `files::write_file` meets its contract.
-use mathlib.Core.Path.{◌∙◌}
-use native.Mathlib.Omega.{arith}
-use Rattle.definition.specs.Settings.{plain_settings, null_as}
-use Rattle.files.proofs.Laws.{file-calm, file-done}
+use Rattle.definition.specs.Settings.{plain_settings}
+use Rattle.files.proofs.Laws.{file-calm, file-over, file-done}
 use Rattle.files.proofs.write_file.Goals as goal
 
-pub terms_of-terms-requires : goal.terms_of-terms-requires
-unfolding plain_settings null_as
-terms_of-terms-requires c = rw c.plain.ensures (omega arith, omega arith)
-
 pub write_one-v-requires : goal.write_one-v-requires
-write_one-v-requires c = file-calm c.args.deck.now c.args.pool.now c.args.out.now c.args.start c.args.f.at _ _ (c.terms_of-terms.ensures ∙ c.plain.ensures) c.fresh_writer-w.ensures c.requires.0 c.requires.1 c.requires.2 c.requires.4
+unfolding plain_settings
+write_one-v-requires c = file-calm _ _ _ _ _ _ _ c.from.ensures c.fresh_writer-w.ensures c.requires.3 c.requires.4 c.requires.0 c.requires.2
+
+pub returns-then-out-end : goal.returns-then-out-end
+unfolding plain_settings
+returns-then-out-end c =
+    file-over _ _ _ _ c.args.found _ _ _ _ _ c.len-length.ensures.0 c.from.ensures c.fresh_writer-w.ensures c.write_one-v.ensures c.write_one-v.auto.out c.requires.1 c.if-out-end.true
 
 pub returns : goal.returns
-returns c = file-done c.args.deck.now c.args.pool.now c.args.out.now c.args.start c.args.f _ _ _ _ _ c.len-length.ensures.0 (c.terms_of-terms.ensures ∙ c.plain.ensures) c.fresh_writer-w.ensures c.write_one-v.ensures
+unfolding plain_settings
+returns c =
+    file-done _ _ _ _ c.args.found _ _ _ _ _ c.len-length.ensures.0 c.from.ensures c.fresh_writer-w.ensures c.write_one-v.ensures c.write_one-v.auto.out c.requires.1 c.if-out-end.false

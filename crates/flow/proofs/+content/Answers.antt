@@ -1,26 +1,25 @@
 use native.Mathlib.Omega.{arith}
-use Rattle.flow.proofs.Laws.{content-null, content-words, content-alias, content-grouped, grouped-deeper, few-grouped, key-emits, no_key, start, flow-step, flow-stop, entry-emits, group-lined, group-plain, line-whole-is, keyed-at, mark-small, lined-step, lined-stop, entry_read, lined-entry-whole, after-byte, lined-whole, group-in, deeper-is, depth_small, plain-whole}
+use Rattle.flow.proofs.Laws.{first-left, next-left, last-left, later, content-null, content-words, content-alias, content-grouped, grouped-deeper, few-grouped, key-emits, no_key, start, flow-step, flow-stop, entry-emits, group-lined, group-plain, line-whole-is, keyed-at, lined-step, lined-stop, entry_read, lined-entry-whole, after-byte, lined-whole, group-in, deeper-is, depth_small, plain-whole}
 use Rattle.flow.specs.Ready.{inside, further, at-cursor, after, left-of, after-drawn, kept-length}
 use Rattle.flow.proofs.Hushes.{hushed-grouped, hushed-lead, hushed-node, hushed-first, hushed-rest, hushed-last, quiet_is}
 use borrow.Author.Rules.{rules}
 use mathlib.Core.Bool.{true, false}
 use Rattle.joints.specs.Line.{line_of}
-use Rattle.spot.specs.Good.{spot-good, few-spot}
-use mathlib.Core.Path.{refl}
+use Rattle.spot.specs.Good.{spot-good}
 use Rattle.flow.specs.Hushed.{untold, untold-in}
 use Rattle.flow.proofs.+content.Goals as goal
 
 pub content-nested-requires : goal.content-nested-requires
-content-nested-requires t c = let q = c.decreases in let r = c.requires.0 in let g = c.requires.1 in let l = grouped-deeper _ false c.args.x _ g c.in-Sequence.is in (omega (arith, q, l, g.within), (inside r _ l g.within, few-grouped false c.args.x _ c.requires.2 c.in-Sequence.is, hushed-grouped _ _ _ false c.args.x _ c.in-Sequence.is c.requires.3))
+content-nested-requires t c = let q = c.decreases in let r = c.requires.0 in let g = c.requires.1 in let l = grouped-deeper _ false c.args.x.now _ g c.in-Sequence.is in (omega (arith, q, l, g.within), (inside r _ l g.within, few-grouped false c.args.x.now _ c.requires.2 c.in-Sequence.is, hushed-grouped _ _ _ false c.args.x.now _ c.in-Sequence.is c.requires.3))
 
 pub content-nested-requires-in-Mapping : goal.content-nested-requires-in-Mapping
-content-nested-requires-in-Mapping t c = let q = c.decreases in let r = c.requires.0 in let g = c.requires.1 in let l = grouped-deeper _ true c.args.x _ g c.in-Mapping.is in (omega (arith, q, l, g.within), (inside r _ l g.within, few-grouped true c.args.x _ c.requires.2 c.in-Mapping.is, hushed-grouped _ _ _ true c.args.x _ c.in-Mapping.is c.requires.3))
+content-nested-requires-in-Mapping t c = let q = c.decreases in let r = c.requires.0 in let g = c.requires.1 in let l = grouped-deeper _ true c.args.x.now _ g c.in-Mapping.is in (omega (arith, q, l, g.within), (inside r _ l g.within, few-grouped true c.args.x.now _ c.requires.2 c.in-Mapping.is, hushed-grouped _ _ _ true c.args.x.now _ c.in-Mapping.is c.requires.3))
 
 pub content-returns-in-Null : goal.content-returns-in-Null
 content-returns-in-Null t c = content-null _ _ _ _ _ c.requires.1 c.in-Null.is c.put_null-v.ensures
 
 pub content-returns-in-Scalar : goal.content-returns-in-Scalar
-content-returns-in-Scalar t c = content-words _ _ _ _ _ _ c.requires.1 c.in-Scalar.is c.is_marked-modified.ensures c.put_words-v.ensures
+content-returns-in-Scalar t c = content-words _ _ _ _ _ _ c.requires.1 c.in-Scalar.is c.put_words-v.ensures
 
 pub content-returns-in-Alias : goal.content-returns-in-Alias
 content-returns-in-Alias t c = content-alias _ _ _ _ _ _ c.requires.1 c.in-Alias.is c.put_alias-v.ensures
@@ -41,43 +40,37 @@ pub entry_key-returns : goal.entry_key-returns
 entry_key-returns t c = no_key _ _ _ _ _ _ _ _ c.if-pairs.false c.requires.0.here
 
 pub entry_node-line-requires : goal.entry_node-line-requires
-entry_node-line-requires t c = let q = c.decreases in let r = c.requires.0 in let g = spot-good _ _ _ r.here r.deck-small c.spot_at-x.ensures in (omega (arith, q, g.1, g.2), (further r _ g.1 g.2, g.0, few-spot _ (λ k. omega (arith, c.type_inv.deck k)) _ _ r.here c.spot_at-x.ensures, hushed-node _ _ _ _ _ r.here c.spot_at-x.ensures c.requires.1))
+entry_node-line-requires t c = let q = c.decreases in let r = c.requires.0 in let g = spot-good _ _ _ r.here r.deck-small c.spot_at-x.ensures.is in (omega (arith, q, g.1, g.2), (further r _ g.1 g.2, g.0, c.spot_at-x.ensures.few, hushed-node _ _ _ _ _ r.here c.spot_at-x.ensures.is c.requires.1))
 
 pub entry_node-returns : goal.entry_node-returns
-entry_node-returns t c = let r = c.requires.0 in at-cursor _ _ _ _ _ _ (line_of _ _ _ _ _) r.here r.deck-small c.spot_at-x.ensures c.line.ensures
+entry_node-returns t c = let r = c.requires.0 in at-cursor _ _ _ _ _ _ (line_of _ _ _ _ _) r.here r.deck-small c.spot_at-x.ensures.is c.line.ensures
 
-pub flow_entries-loop-left-init : goal.flow_entries-loop-left-init
-flow_entries-loop-left-init t c = (start _ _ _ _ _ _ _ _ _ _ c.requires.0, c.requires.1)
+pub flow_entries-loop-k-init : goal.flow_entries-loop-k-init
+flow_entries-loop-k-init t c = rw (first-left _) (start _ _ _ _ _ _ _ _ _ _ c.requires.0, c.requires.1)
 
 pub flow_entries-put_between-u-requires : goal.flow_entries-put_between-u-requires
-flow_entries-put_between-u-requires t c = let r = c.loop-left.invariant.0.ready in let o = r.out-small in omega (arith, o)
+flow_entries-put_between-u-requires t c = let r = c.loop-k.invariant.0.ready in let o = r.out-small in omega (arith, o)
 
 pub flow_entries-flow_entry-e-requires : goal.flow_entries-flow_entry-e-requires
-flow_entries-flow_entry-e-requires t c = let g = c.loop-left.invariant.0 in let r = g.ready in let q = c.decreases in (omega (arith, q, g.onward, r.here), (after r _ _ _ c.put_between-u.ensures, hushed-first _ _ _ _ _ _ c.loop-left-test.true c.loop-left.invariant.1))
+flow_entries-flow_entry-e-requires t c = let g = c.loop-k.invariant.0 in let r = g.ready in let q = c.decreases in (omega (arith, q, g.onward, r.here), (after r _ _ _ c.put_between-u.ensures, hushed-first _ _ _ _ _ _ (let h = c.loop-k-test.true in omega (arith, h)) c.loop-k.invariant.1))
 
-pub flow_entries-loop-left-preserved : goal.flow_entries-loop-left-preserved
-flow_entries-loop-left-preserved t c = (flow-step _ _ _ _ _ _ _ _ _ _ _ _ _ _ _ _ c.loop-left.invariant.0 c.loop-left-test.true c.put_between-u.ensures c.flow_entry-e.ensures, hushed-rest _ _ _ _ _ _ _ c.loop-left-test.true c.flow_entry-e.ensures.next c.loop-left.invariant.1)
+pub flow_entries-loop-k-preserved : goal.flow_entries-loop-k-preserved
+flow_entries-loop-k-preserved t c = rw (next-left _ _, later _) (flow-step _ _ _ _ _ _ _ _ _ _ _ _ _ _ _ _ c.loop-k.invariant.0 (let h = c.loop-k-test.true in omega (arith, h)) c.put_between-u.ensures c.flow_entry-e.ensures, hushed-rest _ _ _ _ _ _ _ (let h = c.loop-k-test.true in omega (arith, h)) c.flow_entry-e.ensures.next c.loop-k.invariant.1)
 
 pub flow_entries-shape_of-out : goal.flow_entries-shape_of-out
-flow_entries-shape_of-out t c = c.loop-left.invariant.0.size
+flow_entries-shape_of-out t c = c.loop-k.invariant.0.size
 
 pub flow_entries-returns : goal.flow_entries-returns
-flow_entries-returns t c = flow-stop _ _ _ _ _ _ _ _ _ _ _ _ c.loop-left.invariant.0 (let z = c.loop-left-test.false in omega arith)
+flow_entries-returns t c = flow-stop _ _ _ _ _ _ _ _ _ _ _ _ c.loop-k.invariant.0 (let z = c.loop-k-test.false in omega arith)
 
-pub flow_entry-entry_node-e-requires : goal.flow_entry-entry_node-e-requires
-flow_entry-entry_node-e-requires t c = let q = c.decreases in (omega (arith, q), (c.requires.0, hushed-lead _ _ _ _ _ c.requires.1))
+pub flow_entry-entry_key-k-requires : goal.flow_entry-entry_key-k-requires
+flow_entry-entry_key-k-requires t c = let q = c.decreases in (omega (arith, q), c.requires)
 
 pub flow_entry-entry_node-requires : goal.flow_entry-entry_node-requires
-flow_entry-entry_node-requires t c = let q = c.decreases in let r = c.requires.0 in let e = key-emits _ _ _ _ _ _ _ _ _ c.if-pairs.true c.entry_node-e.ensures c.byte-v1.ensures in (omega (arith, q, e.onward, e.within), (further (after r _ _ _ e.drawn) _ e.onward e.within, hushed-last _ _ _ _ _ _ e.next c.requires.1))
-
-pub flow_entry-returns-then-pairs : goal.flow_entry-returns-then-pairs
-flow_entry-returns-then-pairs t c = entry-emits _ _ _ _ _ _ _ _ (key-emits _ _ _ _ _ _ _ _ _ c.if-pairs.true c.entry_node-e.ensures c.byte-v1.ensures) c.entry_node.ensures
-
-pub flow_entry-entry_node-requires-2 : goal.flow_entry-entry_node-requires-2
-flow_entry-entry_node-requires-2 t c = let q = c.decreases in (omega (arith, q), (c.requires.0, hushed-lead _ _ _ _ _ c.requires.1))
+flow_entry-entry_node-requires t c = let q = c.decreases in let e = c.entry_key-k.ensures in (omega (arith, q, e.onward, e.within), (further (after c.requires.0 _ _ _ e.drawn) _ e.onward e.within, hushed-last _ _ _ _ _ _ e.next c.requires.1))
 
 pub flow_entry-returns : goal.flow_entry-returns
-flow_entry-returns t c = entry-emits _ _ _ _ _ _ _ _ (no_key _ _ _ _ _ _ _ _ c.if-pairs.false c.requires.0.here) c.entry_node-2.ensures
+flow_entry-returns t c = entry-emits _ _ _ _ _ _ _ _ c.entry_key-k.ensures c.entry_node.ensures
 
 pub group-overflow_add-j : goal.group-overflow_add-j
 group-overflow_add-j t c = let r = c.requires.0 in let e = c.step_of.ensures.0 in omega (arith, e, r.indent)
@@ -94,14 +87,8 @@ group-plain_group-requires t c = let q = c.decreases in (omega (arith, q), (left
 pub group-returns : goal.group-returns
 group-returns t c = group-plain _ _ _ _ _ _ _ _ _ _ _ (c.is_lined.ensures.told _ (quiet_is _ _ _ _ _ _ c.requires.2 c.is_quiet-quiet.ensures)) c.if-is_lined.false c.plain_group.ensures
 
-pub line-with_key-w2-requires : goal.line-with_key-w2-requires
-line-with_key-w2-requires t c = mark-small _ _ _ (let e = c.key-mark.ensures in omega (arith, e)) c.key_in.ensures
-
 pub line-content-e-requires : goal.line-content-e-requires
 line-content-e-requires t c = let q = c.decreases in let p = c.requires in (omega (arith, q), (keyed-at _ _ _ _ _ _ _ c.with_key-w2.ensures (after-drawn p.0 c.put_dress-w1.ensures), p.1, p.2, p.3))
-
-pub line-with_key-v-requires : goal.line-with_key-v-requires
-line-with_key-v-requires t c = let e = c.key-mark.ensures in omega (arith, e)
 
 pub line-put_ending-v1-requires : goal.line-put_ending-v1-requires
 line-put_ending-v1-requires t c = let p = c.requires.0 in let l = p.out-small in let a = c.put_dress-w1.auto in let b = c.content-e.auto in (search rules, omega (arith, p.here, p.deck-small))
@@ -110,37 +97,37 @@ pub line-shape_of-out : goal.line-shape_of-out
 line-shape_of-out t c = let a = c.put_dress-w1.auto in let b = c.content-e.auto in let d = c.put_ending-v1.auto in search rules
 
 pub line-returns : goal.line-returns
-line-returns t c = line-whole-is _ _ _ _ _ _ _ _ _ _ _ _ _ _ _ _ _ c.key-mark.ensures c.put_dress-w1.ensures c.key_in.ensures c.with_key-w2.ensures c.content-e.ensures c.with_key-v.ensures c.put_ending-v1.ensures
+line-returns t c = line-whole-is _ _ _ _ _ _ _ _ _ _ _ _ _ _ _ _ _ c.is_key-key.ensures c.put_dress-w1.ensures c.key_in.ensures c.with_key-w2.ensures c.content-e.ensures c.with_key-v.ensures c.put_ending-v1.ensures
 
-pub lined_entries-loop-left-init : goal.lined_entries-loop-left-init
-lined_entries-loop-left-init t c = start _ _ _ _ _ _ _ _ _ _ c.requires
+pub lined_entries-loop-k-init : goal.lined_entries-loop-k-init
+lined_entries-loop-k-init t c = rw (first-left _) (start _ _ _ _ _ _ _ _ _ _ c.requires)
 
 pub lined_entries-lined_entry-e-requires : goal.lined_entries-lined_entry-e-requires
-lined_entries-lined_entry-e-requires t c = let g = c.loop-left.invariant in let r = g.ready in let q = c.decreases in (omega (arith, q, g.onward, r.here), r)
+lined_entries-lined_entry-e-requires t c = let g = c.loop-k.invariant in let r = g.ready in let q = c.decreases in (omega (arith, q, g.onward, r.here), r)
 
-pub lined_entries-loop-left-preserved : goal.lined_entries-loop-left-preserved
-lined_entries-loop-left-preserved t c = lined-step _ _ _ _ _ _ _ _ _ _ _ _ _ _ _ _ c.loop-left.invariant c.loop-left-test.true refl c.lined_entry-e.ensures
+pub lined_entries-loop-k-preserved : goal.lined_entries-loop-k-preserved
+lined_entries-loop-k-preserved t c = rw (next-left _ _) (lined-step _ _ _ _ _ _ _ _ _ _ _ _ _ _ _ _ c.loop-k.invariant (let h = c.loop-k-test.true in omega (arith, h)) (last-left _ _ c.loop-k-test.true) c.lined_entry-e.ensures)
 
 pub lined_entries-shape_of-out : goal.lined_entries-shape_of-out
-lined_entries-shape_of-out t c = c.loop-left.invariant.size
+lined_entries-shape_of-out t c = c.loop-k.invariant.size
 
 pub lined_entries-returns : goal.lined_entries-returns
-lined_entries-returns t c = lined-stop _ _ _ _ _ _ _ _ _ _ _ _ c.loop-left.invariant (let z = c.loop-left-test.false in omega arith)
+lined_entries-returns t c = lined-stop _ _ _ _ _ _ _ _ _ _ _ _ c.loop-k.invariant (let z = c.loop-k-test.false in omega arith)
 
 pub lined_entry-put_lined_before-w1-requires : goal.lined_entry-put_lined_before-w1-requires
-lined_entry-put_lined_before-w1-requires t c = let r = c.requires in let g = spot-good _ _ _ c.last_of-end.ensures.within r.deck-small c.spot_at-x.ensures in (omega (arith, r.out-small), r.here, r.deck-small, g.0.short)
+lined_entry-put_lined_before-w1-requires t c = let r = c.requires in let g = spot-good _ _ _ c.last_of-end.ensures.within r.deck-small c.spot_at-x.ensures.is in (omega (arith, r.out-small), r.here, r.deck-small, g.0.short)
 
 pub lined_entry-entry_key-k-requires : goal.lined_entry-entry_key-k-requires
 lined_entry-entry_key-k-requires t c = let r = c.requires in let q = c.decreases in (omega (arith, q), (after-drawn r c.put_lined_before-w1.ensures, untold _ _ _ _))
 
 pub lined_entry-line-e-requires : goal.lined_entry-line-e-requires
-lined_entry-line-e-requires t c = let r = c.requires in let q = c.decreases in let l = c.last_of-end.ensures in let g = spot-good _ _ _ l.within r.deck-small c.spot_at-x.ensures in (omega (arith, q, l.onward, g.1, g.2), (further (after (after-drawn r c.put_lined_before-w1.ensures) _ _ _ c.entry_key-k.ensures.drawn) _ (omega (arith, l.onward, g.1)) g.2, g.0, few-spot _ (λ k. omega (arith, c.type_inv.deck k)) _ _ l.within c.spot_at-x.ensures, untold-in _ _ _))
+lined_entry-line-e-requires t c = let r = c.requires in let q = c.decreases in let l = c.last_of-end.ensures in let g = spot-good _ _ _ l.within r.deck-small c.spot_at-x.ensures.is in (omega (arith, q, l.onward, g.1, g.2), (further (after (after-drawn r c.put_lined_before-w1.ensures) _ _ _ c.entry_key-k.ensures.drawn) _ (omega (arith, l.onward, g.1)) g.2, g.0, c.spot_at-x.ensures.few, untold-in _ _ _))
 
 pub lined_entry-put_lined_after-v1-requires : goal.lined_entry-put_lined_after-v1-requires
-lined_entry-put_lined_after-v1-requires t c = let r = c.requires in let z = after (after (after-drawn r c.put_lined_before-w1.ensures) _ _ _ c.entry_key-k.ensures.drawn) _ _ _ c.line-e.ensures.drawn in let g = spot-good _ _ _ c.last_of-end.ensures.within r.deck-small c.spot_at-x.ensures in (omega (arith, z.out-small), omega (arith, g.2, r.deck-small))
+lined_entry-put_lined_after-v1-requires t c = let r = c.requires in let z = after (after (after-drawn r c.put_lined_before-w1.ensures) _ _ _ c.entry_key-k.ensures.drawn) _ _ _ c.line-e.ensures.drawn in let g = spot-good _ _ _ c.last_of-end.ensures.within r.deck-small c.spot_at-x.ensures.is in (omega (arith, z.out-small), omega (arith, g.2, r.deck-small))
 
 pub lined_entry-returns : goal.lined_entry-returns
-lined_entry-returns t c = let r = c.requires in lined-entry-whole _ _ _ _ _ _ _ _ _ _ c.last_of-end.ensures c.spot_at-x.ensures c.put_lined_before-w1.ensures (entry_read _ _ _ _ _ _ _ _ _ _ r.deck-small c.last_of-end.ensures c.spot_at-x.ensures c.entry_key-k.ensures c.line-e.ensures) c.put_lined_after-v1.ensures
+lined_entry-returns t c = let r = c.requires in lined-entry-whole _ _ _ _ _ _ _ _ _ _ c.last_of-end.ensures c.spot_at-x.ensures.is c.put_lined_before-w1.ensures (entry_read _ _ _ _ _ _ _ _ _ _ r.deck-small c.last_of-end.ensures c.spot_at-x.ensures.is c.entry_key-k.ensures c.line-e.ensures) c.put_lined_after-v1.ensures
 
 pub lined_group-lined_entries-e-requires : goal.lined_group-lined_entries-e-requires
 lined_group-lined_entries-e-requires t c = let r = c.requires.0 in let q = c.decreases in (omega (arith, q), after-byte _ _ _ _ (after-byte _ _ _ _ r c.byte-w1.ensures) c.byte-w2.ensures)

@@ -5,4 +5,4 @@ pub returns-then-pairs : goal.returns-then-pairs
 returns-then-pairs c = last-value _ _ _ _ c.if-pairs.true c.subtree_end.ensures
 
 pub returns : goal.returns
-returns c = last-item _ _ _ c.if-pairs.false c.requires.0
+returns c = last-item _ _ _ c.if-pairs.false c.requires

@@ -1,8 +1,8 @@
 use Rattle.joints.proofs.Laws.{colon-alias, colon-other}
 use Rattle.joints.proofs.put_colon.Goals as goal
 
-pub returns-then-case_of-eq2 : goal.returns-then-case_of-eq2
-returns-then-case_of-eq2 c = colon-alias _ _ _ _ _ c.case_of.ensures c.if-case_of-eq2.true c.byte-w1.ensures c.byte.ensures
+pub returns-in-Alias : goal.returns-in-Alias
+returns-in-Alias c = colon-alias _ _ _ _ _ c.in-Alias.is c.byte-w1.ensures c.byte.ensures
 
-pub returns : goal.returns
-returns c = colon-other _ _ _ _ c.case_of.ensures c.if-case_of-eq2.false c.byte-2.ensures
+pub returns-in_default : goal.returns-in_default
+returns-in_default c = colon-other _ _ _ (λ t e. c.in_default.not-Alias _ e) c.byte-in_default.ensures

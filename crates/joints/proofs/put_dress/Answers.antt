@@ -1,13 +1,12 @@
-use borrow.Author.Tests.{eq-eqb, ne_eqb}
 use Rattle.joints.specs.Line.{dressed}
-use Rattle.pen.specs.Draws.{draws-yes, draws-no, stays}
+use Rattle.pen.specs.Draws.{stays}
 use Rattle.parts.specs.Props.{of-props}
+use Rattle.joints.proofs.Laws.{dressed-so}
 use Rattle.joints.proofs.put_dress.Goals as goal
 
-pub returns-then-rank_of-eq2 : goal.returns-then-rank_of-eq2
+pub returns-in-Below : goal.returns-in-Below
 unfolding dressed
-returns-then-rank_of-eq2 c = draws-yes _ _ _ (eq-eqb _ _ (rw c.rank_of.ensures at c.if-rank_of-eq2.true)) stays
+returns-in-Below c = rw c.in-Below.is stays
 
-pub returns : goal.returns
-unfolding dressed
-returns c = draws-no _ _ _ (ne_eqb _ _ (rw c.rank_of.ensures at c.if-rank_of-eq2.false)) (of-props _ _ c.args.x.lead c.put_props.ensures)
+pub returns-in_default : goal.returns-in_default
+returns-in_default c = rw (dressed-so _ _ c.in_default.not-Below) (of-props _ _ c.args.x.now.lead c.put_props.ensures)

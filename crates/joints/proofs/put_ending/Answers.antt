@@ -1,22 +1,21 @@
-use borrow.Author.Tests.{eq-eqb, ne_eqb}
 use Rattle.joints.specs.Line.{ending}
 use Rattle.node.specs.Total.{kept_of}
-use Rattle.pen.specs.Draws.{draws-yes, draws-no, stays, of_end}
+use Rattle.pen.specs.Draws.{stays, of_end}
 use Rattle.parts.specs.Lines.{closes}
+use Rattle.joints.proofs.Laws.{ending-line}
 use Rattle.joints.proofs.put_ending.Goals as goal
 
-pub returns-then-rank-eq0 : goal.returns-then-rank-eq0
+pub returns-in-Entry : goal.returns-in-Entry
 unfolding ending
-returns-then-rank-eq0 c = draws-yes _ _ _ (eq-eqb _ _ (rw c.rank_of-rank.ensures at c.if-rank-eq0.true)) stays
+returns-in-Entry c = rw c.in-Entry.is stays
 
-pub returns-then-rank-eq1 : goal.returns-then-rank-eq1
+pub returns-in-Value : goal.returns-in-Value
 unfolding ending closes kept_of
-returns-then-rank-eq1 c = draws-no _ _ _ (ne_eqb _ _ (rw c.rank_of-rank.ensures at c.if-rank-eq0.false)) (draws-yes _ _ _ (eq-eqb _ _ (rw c.rank_of-rank.ensures at c.if-rank-eq1.true)) c.put_close.ensures)
+returns-in-Value c = rw c.in-Value.is c.put_close.ensures
 
-pub returns-then-rank-eq3 : goal.returns-then-rank-eq3
-unfolding ending
-returns-then-rank-eq3 c = draws-no _ _ _ (ne_eqb _ _ (rw c.rank_of-rank.ensures at c.if-rank-eq0.false)) (draws-no _ _ _ (ne_eqb _ _ (rw c.rank_of-rank.ensures at c.if-rank-eq1.false)) (draws-yes _ _ _ (eq-eqb _ _ (rw c.rank_of-rank.ensures at c.if-rank-eq3.true)) (c.put_colon.ensures.drawn _ _ _)))
+pub returns-in-Below : goal.returns-in-Below
+returns-in-Below c = rw (ending-line _ _ _ _ c.in-Below.is) (of_end c.end_line.ensures)
 
-pub returns : goal.returns
+pub returns-in-Key : goal.returns-in-Key
 unfolding ending
-returns c = draws-no _ _ _ (ne_eqb _ _ (rw c.rank_of-rank.ensures at c.if-rank-eq0.false)) (draws-no _ _ _ (ne_eqb _ _ (rw c.rank_of-rank.ensures at c.if-rank-eq1.false)) (draws-no _ _ _ (ne_eqb _ _ (rw c.rank_of-rank.ensures at c.if-rank-eq3.false)) (of_end c.end_line.ensures)))
+returns-in-Key c = rw c.in-Key.is (c.put_colon.ensures.drawn _ _ _)

@@ -1,4 +1,4 @@
--- `modified::count_changed` meets its contract.
+-- `modified::count_changed`: a child has less of the deck; what is counted and what is left make the whole.
 use Prim.Native.Nat.{◌-◌}
 use lib.ListN.{length}
 use Rattle.modified.proofs.Counts.{Tally}
@@ -7,8 +7,5 @@ use Rattle.modified.proofs.+count_changed.Given as goal
 abbrev pub decreases-count_changed : goal.decreases-count_changed
 decreases-count_changed l = length l.deck.now - l.c.at
 
-abbrev pub invariant-loop-rest : goal.invariant-loop-rest
-invariant-loop-rest l = Tally l.deck l.initial.count l.initial.rest l.initial.here l.count l.rest l.here
-
-abbrev pub decreases-loop-rest : goal.decreases-loop-rest
-decreases-loop-rest l = l.rest
+abbrev pub invariant-loop : goal.invariant-loop
+invariant-loop l = Tally l.deck (record { count = l.initial.count; kids = l.end; next = l.initial.here }) l.count l.counter l.here

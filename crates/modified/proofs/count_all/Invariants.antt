@@ -1,9 +1,6 @@
--- `modified::count_all` meets its contract.
+-- `modified::count_all`: what is counted and what is left make the whole.
 use Rattle.modified.proofs.Counts.{Sum}
 use Rattle.modified.proofs.count_all.Given as goal
 
-abbrev pub invariant-loop-left : goal.invariant-loop-left
-invariant-loop-left l = Sum l.deck l.count l.left l.here
-
-abbrev pub decreases-loop-left : goal.decreases-loop-left
-decreases-loop-left l = l.left
+abbrev pub invariant-loop : goal.invariant-loop
+invariant-loop l = Sum l.deck l.count l.counter l.here

@@ -2,10 +2,10 @@
 use Rattle.modified.specs.Files.{file_named}
 use Rattle.modified.proofs.file_named.Goals as goal
 
-pub returns-then-is_included : goal.returns-then-is_included
+pub returns-in_err-origin : goal.returns-in_err-origin
 unfolding file_named
-returns-then-is_included c = rw (← c.is_included.ensures, c.if-is_included.true, c.include_in-include.ensures)
+returns-in_err-origin c = rw (c.in_err-origin.was, c.from_residual.ensures)
 
 pub returns : goal.returns
 unfolding file_named
-returns c = rw (← c.is_included.ensures, c.if-is_included.false)
+returns c = rw (c.in_ok-origin.was, c.include_in-include.ensures)

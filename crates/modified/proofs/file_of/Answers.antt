@@ -2,8 +2,8 @@
 use Rattle.modified.proofs.Laws.{file-absent, file-changed}
 use Rattle.modified.proofs.file_of.Goals as goal
 
-pub returns-in-Absent : goal.returns-in-Absent
-returns-in-Absent c = file-absent c.args.deck.now c.args.c c.requires.0 c.args.origin c.requires.2 c.file_named-file.ensures c.in-Absent.is
+pub returns-in_err-id : goal.returns-in_err-id
+returns-in_err-id c = rw c.from_residual.ensures (file-absent _ _ c.requires.0 _ c.requires.1 c.in_err-id.ensures)
 
-pub returns-in-Id : goal.returns-in-Id
-returns-in-Id c = file-changed c.args.deck.now c.args.c c.requires.0 c.args.origin c.requires.2 c.file_named-file.ensures c.if_changed.ensures
+pub returns : goal.returns
+returns c = rw c.then_some.ensures (file-changed _ _ c.requires.0 _ c.requires.1 c.in_ok-id.ensures c.local_modified.ensures)

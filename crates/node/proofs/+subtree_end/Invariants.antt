@@ -12,8 +12,5 @@ use Rattle.node.proofs.+subtree_end.Given as goal
 abbrev pub decreases-subtree_end : goal.decreases-subtree_end
 decreases-subtree_end l = length l.deck.now - l.c.at
 
-abbrev pub invariant-loop-left : goal.invariant-loop-left
-invariant-loop-left l = ((pool : Bytes) → nexts (λ d. (tree_at l.deck pool d).next) l.left l.here ≡ nexts (λ d. (tree_at l.deck pool d).next) l.initial.left l.initial.here) × (l.initial.here.at ≤ l.here.at) × (l.here.at ≤ length l.deck) × (l.left ≤ l.initial.left)
-
-abbrev pub decreases-loop-left : goal.decreases-loop-left
-decreases-loop-left l = l.left
+abbrev pub invariant-loop : goal.invariant-loop
+invariant-loop l = ((pool : Bytes) → nexts (λ d. (tree_at l.deck pool d).next) (l.end - l.counter) l.here ≡ nexts (λ d. (tree_at l.deck pool d).next) l.end l.initial.here) × (l.initial.here.at ≤ l.here.at) × (l.here.at ≤ length l.deck)

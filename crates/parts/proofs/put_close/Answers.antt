@@ -2,11 +2,12 @@
 use Rattle.parts.specs.Lines.{closes}
 use Rattle.pen.specs.Draws.{both, of_end}
 use Rattle.parts.proofs.Laws.{no-remark}
+use Rattle.std.proofs.Common.{rules}
 use Rattle.parts.proofs.put_close.Goals as goal
 
-pub returns-then-remark-eq0 : goal.returns-then-remark-eq0
+pub returns-then-is_none : goal.returns-then-is_none
 unfolding closes
-returns-then-remark-eq0 c = both _ _ (no-remark _ _ _ _ _ c.if-remark-eq0.true) (of_end c.end_line.ensures)
+returns-then-is_none c = both _ _ (no-remark _ _ _ _ _ (search rules)) (of_end c.end_line.ensures)
 
 pub returns : goal.returns
 unfolding closes

@@ -1,12 +1,9 @@
 -- `parts::put_props_line` meets its contract.
-use mathlib.Core.Path.{refl}
-use Rattle.parts.specs.Props.{has_held}
 use Rattle.parts.proofs.Laws.{props-line, no_line}
 use Rattle.parts.proofs.put_props_line.Goals as goal
 
 pub returns-then-is_either : goal.returns-then-is_either
-unfolding has_held
-returns-then-is_either c = props-line _ _ _ _ _ c.is_either.ensures c.if-is_either.true refl c.put_prop-w1.ensures c.put_prop-w2.ensures c.byte.ensures
+returns-then-is_either c = props-line _ _ _ _ _ c.is_either.ensures c.if-is_either.true c.is_some-both.ensures c.put_prop-w1.ensures c.put_prop-w2.ensures c.byte.ensures
 
 pub returns : goal.returns
 returns c = no_line _ _ _ _ c.is_either.ensures c.if-is_either.false

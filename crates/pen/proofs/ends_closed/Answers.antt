@@ -1,13 +1,13 @@
-use borrow.Author.Tests.{eq-eqb, ne_eqb}
 use native.Mathlib.Omega.{arith}
-use Rattle.pen.proofs.Laws.{nothing-open, last-closed}
+use Rattle.std.proofs.lemmas.Bool.Decides.{nat_tests}
+use Rattle.pen.proofs.Laws.{some_closed}
 use Rattle.pen.proofs.ends_closed.Goals as goal
 
-pub returns-then-n-eq0 : goal.returns-then-n-eq0
-returns-then-n-eq0 c = rw (nothing-open _ c.if-n-eq0.true)
+pub returns-in-Some-eq10 : goal.returns-in-Some-eq10
+returns-in-Some-eq10 c = let e = some_closed c.args.t.now _ c.in-Some-eq10.ensures.value in grind (arith, nat_tests)
 
-pub returns-then-b-eq10 : goal.returns-then-b-eq10
-returns-then-b-eq10 c = rw (last-closed c.args.t.now (let h = c.if-n-eq0.false in omega arith), eq-eqb _ _ c.if-b-eq10.true)
+pub returns-in-Some-eq10-2 : goal.returns-in-Some-eq10-2
+returns-in-Some-eq10-2 c = let e = some_closed c.args.t.now _ c.in-Some-eq10.ensures.value in grind (arith, nat_tests)
 
-pub returns-else-b-eq10 : goal.returns-else-b-eq10
-returns-else-b-eq10 c = rw (last-closed c.args.t.now (let h = c.if-n-eq0.false in omega arith), ne_eqb _ _ c.if-b-eq10.false)
+pub returns-in_default : goal.returns-in_default
+returns-in_default c = let e = some_closed c.args.t.now _ (rw c.in_default.is at c.last.ensures.value) in grind (arith, nat_tests)

@@ -8,4 +8,4 @@ quote_of-q-requires c = tt
 
 pub returns : goal.returns
 unfolding quoted_at
-returns c = rw (← c.quote_of-q.ensures) (around _ _ _ _ _ _ c.byte-w.ensures c.put_body-w.ensures c.byte.ensures)
+returns c = rw (← c.quote_of-q.ensures) (around _ _ _ _ _ _ c.byte.ensures c.put_body.ensures c.byte-2.ensures)

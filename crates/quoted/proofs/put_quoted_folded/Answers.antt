@@ -12,4 +12,4 @@ quote_of-q-requires c = tt
 
 pub returns : goal.returns
 unfolding folded_at weight_of
-returns c = rw (← c.width.ensures, ← c.quote_of-q.ensures, ← (rw c.column-column.ensures.0 at c.at_least_one.ensures)) (around _ _ _ _ _ _ c.byte-w.ensures (rw c.column-column.ensures.0 at c.put_folded-w.ensures) c.byte.ensures)
+returns c = rw (← c.quote_of-q.ensures, ← (rw c.column-column.ensures.0 at c.at_least_one.ensures)) (around _ _ _ _ _ _ c.byte.ensures (rw c.column-column.ensures.0 at c.put_folded.ensures) c.byte-2.ensures)

@@ -1,12 +1,23 @@
+-- `rassemok::look` meets its contract.
 use native.Mathlib.Omega.{arith}
-use Rattle.rassemok.proofs.Laws.{not-one-looked, one-looked}
+use Rattle.std.proofs.lemmas.Result.{err_from_is_err_and}
+use Rattle.definition.specs.Settings.{plain_settings}
+use Rattle.rassemok.proofs.Laws.{refused-so, not-one, one}
 use Rattle.rassemok.proofs.look.Goals as goal
 
-pub returns-then-documents-ne1 : goal.returns-then-documents-ne1
-returns-then-documents-ne1 c = not-one-looked _ _ c.requires.0 _ _ c.requires.1 c.if-documents-ne1.true c.refuse.ensures
+pub returns-in_err-documents : goal.returns-in_err-documents
+unfolding plain_settings
+returns-in_err-documents c =
+    let r = err_from_is_err_and c.from_residual.result c.from_residual.ensures.1 in
+    rw (r.1, r.2) (refused-so _ _ _ (rw c.from-settings.ensures at c.in_err-documents.ensures))
 
-pub local_modified-modified-requires : goal.local_modified-modified-requires
-local_modified-modified-requires c = (omega arith, c.requires.0.deck)
+pub returns-then-documents-ne1 : goal.returns-then-documents-ne1
+unfolding plain_settings
+returns-then-documents-ne1 c = not-one _ _ _ (rw c.from-settings.ensures at c.in_ok-documents.ensures) c.if-documents-ne1.true
+
+pub local_modified-requires : goal.local_modified-requires
+local_modified-requires c = omega arith
 
 pub returns : goal.returns
-returns c = one-looked _ _ c.requires.0 _ _ c.requires.1 c.if-documents-ne1.false (c.local_modified-modified.ensures.told _)
+unfolding plain_settings
+returns c = one _ _ _ (rw c.from-settings.ensures at c.in_ok-documents.ensures) _ c.if-documents-ne1.false (c.local_modified.ensures.told _)

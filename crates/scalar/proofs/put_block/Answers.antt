@@ -8,5 +8,5 @@ pub returns-then-flow : goal.returns-then-flow
 unfolding folds styled_at
 returns-then-flow c = rw c.if-flow.true c.put_styled.ensures
 
-pub returns : goal.returns
-returns c = rw c.if-flow.false (and_then _ _ _ c.put_header-w.ensures c.put_block_body.ensures)
+pub returns-else-flow : goal.returns-else-flow
+returns-else-flow c = rw c.if-flow.false (and_then _ _ _ c.put_header.ensures c.put_block_body.ensures)

@@ -1,31 +1,16 @@
 -- `utf8::run_well_formed` meets its contract.
-use mathlib.Core.Path.{◌≡◌, sym, ◌∙◌}
+use mathlib.Core.Path.{sym, ◌∙◌}
 use native.Mathlib.Omega.{arith}
+use borrow.Author.Tests.{le-ltb}
 use Rattle.utf8.proofs.Chars.{none_left}
-use Rattle.utf8.proofs.Runs.{runs-from, run_past, run_end-is, run_in}
+use Rattle.utf8.proofs.Runs.{run_past, run_in}
 use Rattle.utf8.proofs.run_well_formed.Goals as goal
 
-pub overflow_add-past : goal.overflow_add-past
-overflow_add-past c = omega (arith, c.requires.0, c.well_formed)
+pub returns-then-len-eq0 : goal.returns-then-len-eq0
+returns-then-len-eq0 c = rw (c.if-len-eq0.true, none_left)
 
-pub returns-then-past-from : goal.returns-then-past-from
-returns-then-past-from c = let z : c.args.len ≡ 0 = omega (arith, c.if-past-from.true) in rw (z, none_left)
+pub returns-then-past-end : goal.returns-then-past-end
+returns-then-past-end c = c.is_boundary.ensures ∙ sym (run_in c.args.s.now c.args.from c.args.len _ c.requires.0 c.run_end-end.ensures c.if-past-end.true)
 
-pub run_end-end-requires : goal.run_end-end-requires
-run_end-end-requires c = record {
-  at_in_bounds = (omega (arith, c.requires.0), omega arith, omega arith, c.requires.1);
-  runs = runs-from _ _ _ _ (omega arith) c.requires.2;
-}
-
-pub returns-then-end-past : goal.returns-then-end-past
-returns-then-end-past c = sym (run_past c.args.s.now c.args.from c.args.len _ c.requires.0 c.run_end-end.ensures c.if-end-past.true)
-
-pub returns-then-end-past-2 : goal.returns-then-end-past-2
-returns-then-end-past-2 c = sym (run_end-is c.args.s.now c.args.from c.args.len _ c.requires.0 c.run_end-end.ensures c.if-end-past-2.true)
-
-pub is_boundary-requires : goal.is_boundary-requires
-is_boundary-requires c = tt
-
-pub returns : goal.returns
-returns c = c.is_boundary.ensures ∙
-    sym (run_in c.args.s.now c.args.from c.args.len _ c.requires.0 c.run_end-end.ensures (omega (arith, c.if-end-past.false, c.if-end-past-2.false)))
+pub returns-else-past-end : goal.returns-else-past-end
+returns-else-past-end c = rw (run_past c.args.s.now c.args.from c.args.len _ c.requires.0 c.run_end-end.ensures (omega (arith, c.if-end-past.false)), le-ltb _ _ c.if-past-end.false)

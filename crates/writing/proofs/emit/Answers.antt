@@ -1,16 +1,18 @@
-use mathlib.Core.Path.{subst}
-use Rattle.agree.specs.Accepted.{Accepted}
-use Rattle.writing.proofs.Laws.{not-one}
+-- `writing::emit` meets its contract.
+use mathlib.Core.Path.{◌≡◌, sym, ◌∙◌}
+use mathlib.Core.Bool.{false, true≢false}
+use Rattle.writing.proofs.Laws.{not-one, begin-at, emitted}
 use Rattle.writing.proofs.emit.Goals as goal
-
-pub returns-then-all : goal.returns-then-all
-returns-then-all c = rw c.if-all.true c.emit_all.ensures
+use Rattle.writing.proofs.emit.Goals.{else-not-all-via-then-not-all+else-documents-ne1, else-not-all-via-else-not-all}
 
 pub returns-then-documents-ne1 : goal.returns-then-documents-ne1
-returns-then-documents-ne1 c = rw c.if-all.false (not-one _ _ _ _ c.requires.0 c.requires.1 _ _ c.requires.2 c.if-documents-ne1.true c.refuse.ensures)
+returns-then-documents-ne1 c = not-one _ _ _ _ c.requires.0 c.requires.1 _ _ c.requires.2 c.if-not-all.true c.if-documents-ne1.true
 
-pub emit_one-requires : goal.emit_one-requires
-emit_one-requires c = (c.requires.0, c.requires.1, subst (Accepted _ _) c.if-documents-ne1.false c.requires.2)
+pub put_documents-v-requires : goal.put_documents-v-requires
+put_documents-v-requires c = begin-at _ _ _ _ c.requires.0 c.requires.1 c.args.all _ c.requires.2 _ c.fresh_writer-w.ensures
 
 pub returns : goal.returns
-returns c = rw c.if-all.false c.emit_one.ensures
+returns c =
+    let one : c.args.all ≡ false → c.args.documents ≡ 1 =
+    λ e. elim c.else-not-all.branch [ else-not-all-via-then-not-all+else-documents-ne1 w ↦ w.if-documents-ne1.false | else-not-all-via-else-not-all w ↦ absurd (true≢false (sym w.if-not-all.false ∙ e)) ] in
+    emitted _ _ _ _ c.requires.0 c.requires.1 _ _ c.requires.2 _ _ _ _ _ one c.fresh_writer-w.ensures c.put_documents-v.ensures c.settle.ensures

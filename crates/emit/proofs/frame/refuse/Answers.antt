@@ -4,15 +4,6 @@ use Rattle.definition.specs.Program.{refusal_line}
 use Rattle.emit.specs.Front.{adds_then, adds-shows}
 use Rattle.emit.proofs.frame.refuse.Goals as goal
 
-pub put_text-c-requires : goal.put_text-c-requires
-put_text-c-requires c = let e = c.put_text-a.ensures.ends in let f = c.put_decimal-b.ensures.1 in omega arith
-
-pub put_decimal-d-requires : goal.put_decimal-d-requires
-put_decimal-d-requires c = let e = c.put_text-a.ensures.ends in let f = c.put_decimal-b.ensures.1 in let g = c.put_text-c.ensures.ends in omega arith
-
-pub put_text-requires : goal.put_text-requires
-put_text-requires c = let e = c.put_text-a.ensures.ends in let f = c.put_decimal-b.ensures.1 in let g = c.put_text-c.ensures.ends in let h = c.put_decimal-d.ensures.1 in omega arith
-
 pub returns : goal.returns
 unfolding refusal_line
 returns c = let e = c.put_text-a.ensures.ends in

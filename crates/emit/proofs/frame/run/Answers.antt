@@ -17,4 +17,4 @@ pub returns-then-n-gt65536 : goal.returns-then-n-gt65536
 returns-then-n-gt65536 c = shows-stated _ _ _ _ c.if-input-lt4.false c.deck_length-n.ensures c.if-n-gt65536.true c.refuse.ensures
 
 pub returns : goal.returns
-returns c = shows-cut _ _ _ _ _ c.if-input-lt4.false c.deck_length-n.ensures c.if-n-gt65536.false c.least-mid.ensures c.show-2.ensures
+returns c = shows-cut _ _ _ _ _ c.if-input-lt4.false c.deck_length-n.ensures c.if-n-gt65536.false c.min-mid.ensures c.show-2.ensures

@@ -12,4 +12,4 @@ returns-then-self-mark c = rw (eq-eqb _ _ c.if-self-mark.true)
 
 pub returns : goal.returns
 unfolding noted inline_text
-returns c = rw (ne_eqb _ _ c.if-self-mark.false) (paged c.with_inline.ensures ∙ ap (λ (p : Pen). page (with_inline (c.args.place + 1) p.w) p.out) (and_then _ _ _ (rw c.at_least_one.ensures at c.spaces-w.ensures) c.hashed-w2.ensures))
+returns c = rw (ne_eqb _ _ c.if-self-mark.false) (paged c.with_inline.ensures ∙ ap (λ (p : Pen). page (with_inline (c.args.place + 1) p.w) p.out) (and_then _ _ _ (rw c.at_least_one.ensures at c.spaces.ensures) c.hashed.ensures))

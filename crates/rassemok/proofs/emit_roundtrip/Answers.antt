@@ -1,8 +1,0 @@
-use Rattle.definition.specs.Settings.{plain_settings}
-use Rattle.definition.specs.Calls.{outcome}
-use Rattle.writing.specs.Written.{written}
-use Rattle.rassemok.proofs.emit_roundtrip.Goals as goal
-
-pub returns : goal.returns
-unfolding outcome plain_settings written
-returns c = rw c.null_as-settings.ensures at c.write.ensures

@@ -1,8 +1,0 @@
-use mathlib.Core.Path.{refl}
-use Rattle.definition.specs.Settings.{is_on}
-use Rattle.terms.specs.Terms.{settings_in}
-use Rattle.terms.proofs.Terms.quotes_singly.Goals as goal
-
-pub returns : goal.returns
-unfolding settings_in is_on
-returns c = refl
