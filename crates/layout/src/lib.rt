@@ -37,7 +37,7 @@ pub fn put_include(w: Writer, given: &Given, out: &mut [u8], x: &Spot, c: Cursor
 }
 
 // `emit_value_below_introducer`
-fn put_below(w: Writer, given: &Given, out: &mut [u8], x: &Spot, i: usize) -> Emitted
+pub fn put_below(w: Writer, given: &Given, out: &mut [u8], x: &Spot, i: usize) -> Emitted
     requires { (Ready given.now.settings given.now.deck.now given.now.pool.now (pen w out.old) x.now.place i) × Good given.now.deck.now x.now × (count_in x.now.body < 65536) × ((fields w).flow ≡ 0) × ((fields w).key ≡ 0) }
     ensures { Emits given.now.settings (below_introducer x.now.place (kept_in given.now.deck.now given.now.pool.now x.now) (brought_in given.now.deck.now given.now.pool.now x.now) i (content given.now.settings false false i (node_in given.now.deck.now given.now.pool.now x.now))) (pen w out.old) (pen result.w out.new) x.now.place (end_in given.now.deck.now given.now.pool.now x.now) result.next (length given.now.deck.now) }
 {
@@ -46,7 +46,7 @@ fn put_below(w: Writer, given: &Given, out: &mut [u8], x: &Spot, i: usize) -> Em
 }
 
 // The space between an introducer and its value. One space is a byte: most values have no other pad.
-fn put_pad(w: Writer, out: &mut [u8], pad: usize) -> Writer
+pub fn put_pad(w: Writer, out: &mut [u8], pad: usize) -> Writer
     requires { length out.old < 2 ^ 21 }
     ensures { Draws (indent (max pad 1)) (pen w out.old) (pen result out.new) }
 {
@@ -67,7 +67,7 @@ pub fn put_dressed(w: Writer, given: &Given, out: &mut [u8], lead: &Lead) -> Wri
 
 // A node of which nothing is written after its introducer but its properties; the cursor after it is handed back. Most have none: that is
 // tested here, so that a line's end is not a call.
-fn put_bare(w: Writer, given: &Given, out: &mut [u8], lead: &Lead, next: Cursor) -> Emitted
+pub fn put_bare(w: Writer, given: &Given, out: &mut [u8], lead: &Lead, next: Cursor) -> Emitted
     requires { length out.old < 2 ^ 21 }
     ensures { (Draws (bare_line (brought_of given.now.deck.now given.now.pool.now lead.now)) (pen w out.old) (pen result.w out.new)) × (result.next ≡ next) }
 {
