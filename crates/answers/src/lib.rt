@@ -2,7 +2,6 @@
 #![tactic(auto)]
 
 ghost use Rattle.std.specs.Prelude.{◌≡◌, length};
-ghost use Rattle.definition.specs.Refusal.{number_of};
 ghost use Rattle.judge.specs.Judge.{fault_told, told};
 ghost use Rattle.answers.specs.Answer.{refusal, answer_of};
 ghost use Rattle.answers.specs.Limits.{limit_of};
@@ -22,13 +21,14 @@ pub struct Answer {
     pub modified: bool,
 }
 
+// A refusal by number and place.
 #[tactic(auto, unfolding(crate::specs::Answer::refusal))]
-pub fn refuse(r: Refusal) -> Answer
-    ensures { result ≡ refusal (number_of r.fault) r.place }
+pub fn refuse(number: usize, place: usize) -> Answer
+    ensures { result ≡ refusal number place }
 {
     Answer {
-        number: r.fault.number(),
-        place: r.place,
+        number,
+        place,
         length: 0,
         count: 0,
         modified: false,
@@ -41,7 +41,7 @@ pub fn answer_of(outcome: Result<Answer, Refusal>) -> Answer
 {
     match outcome {
         Ok(answer) => answer,
-        Err(refusal) => refuse(refusal),
+        Err(refusal) => refuse(refusal.fault.number(), refusal.place),
     }
 }
 

@@ -119,14 +119,12 @@ pub fn put_words(
         (fresh_in (on (fields w).flow) (on (fields w).key) i x.now.place (remark_of given.now.deck.now given.now.pool.now x.now.lead.remark) (words given.now.pool.now said.now.text) said.now.style))
         (pen w out.old) }
 {
-    if is_marked(x.lead.lines.marks, 1) {
-        return put_fresh(w, given, out, i, x, said);
-    }
+    let modified = is_marked(x.lead.lines.marks, 1);
     match x.lead.raw {
-        Some(c) => w.replay(
+        Some(c) if !modified => w.replay(
             out,
             deck::words_of(given.pool, deck::text_in(given.deck, c.at)),
         ),
-        None => put_fresh(w, given, out, i, x, said),
+        _ => put_fresh(w, given, out, i, x, said),
     }
 }

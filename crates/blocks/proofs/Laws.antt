@@ -1,19 +1,22 @@
 -- Block scalars, a turn at a time: the lines, the line breaks at the end, the header and the body from their parts.
 use Prim.Native.Nat.{ℕ, zero, suc, ◌+◌, ◌-◌, ◌≤◌, ◌<◌}
 use native.Mathlib.Omega.{arith}
+use native.Mathlib.Numerals.{add-one}
 use mathlib.Core.Path.{◌≡◌, refl, sym, ap, ◌∙◌}
 use mathlib.Core.Bool.{Bool, true, false, cond}
-use mathlib.Core.List.{List, [], ◌∷◌, ◌++◌, append_assoc, append-nil, map}
+use mathlib.Core.List.{[], ◌∷◌, ◌++◌}
 use mathlib.Core.Logic.{◌⊎◌, inl, inr}
-use lib.ListN.{length, take, replicate, length-replicate}
+use lib.ListN.{length, get_or, drop, take, replicate, length-replicate}
+use lib.Seq.{drop-cons}
 use lib.Dec.{eqb}
 use borrow.Author.Tests.{eqb-true, eq-eqb, ne_eqb}
-use denote.Ref.{Bor}
 use Rattle.std.specs.Prelude.{reverse}
-use Rattle.std.specs.List.{prefix_len, slice_split, onto_first}
+use Rattle.std.specs.List.{prefix_len}
 use Rattle.std.proofs.lemmas.List.{reverse-append, length-reverse}
 use Rattle.std.proofs.lemmas.List.Folds.{prefix_len-append}
-use Rattle.pen.specs.Pen.{Pen, put1, puts, and_then}
+use Rattle.pen.specs.Pen.{Pen, put1, puts, puts-append, and_then}
+use Rattle.pen.specs.Runs.{Run, parted, run_length}
+use Rattle.laws.specs.Tests.{Every, more}
 use Rattle.definition.specs.Base.{Bytes, when◌then◌else◌, spaces}
 use Rattle.definition.specs.Ascii.{LF}
 use Rattle.definition.specs.Block.{all_breaks, trailing, trimmed, chomping, indented, beyond, block_header, block_body}
@@ -21,70 +24,37 @@ use Rattle.laws.specs.Trim.{trimmed-take, trailing_le, breaks-all, nothing_left,
 
 -- ---- the lines
 
--- a line with its line break; lines; and what is left of lines the first of which has begun
-abbrev pub line : ℕ → Bytes → Bytes
-line n [] = LF ∷ []
-line n (b ∷ l) = spaces n ++ ((b ∷ l) ++ (LF ∷ []))
+-- what holds of a byte and the text after it holds at a place of a text
+along : (F : Bytes → ℕ → Bytes → Type 0) (s : Bytes) (i : ℕ) → i < length s → ((a : ℕ) (t : Bytes) → F (a ∷ t) a t) → F (drop i s) (get_or s i 0) (drop (i + 1) s)
+along F s i h k = rw (add-one, drop-cons s i 0 h) (k (get_or s i 0) (drop (suc i) s))
 
-abbrev pub lines : ℕ → List Bytes → Bytes
-lines n [] = []
-lines n (l ∷ ls) = line n l ++ lines n ls
+module _ (n : ℕ) (s : Bytes) (i : ℕ) (h : i < length s) where
+  pub line-broken : (fresh : Bool) (P P₁ : Pen) → get_or s i 0 ≡ 10 → P₁ ≡ put1 P 10 → puts (indented n true (drop (i + 1) s)) P₁ ≡ puts (indented n fresh (drop i s)) P
+  unfolding indented puts
+  line-broken fresh P P₁ e w =
+      rw w (along (λ x a t. a ≡ 10 → puts (indented n true t) (put1 P 10) ≡ puts (indented n fresh x) P) s i h (λ a t e. rw (eq-eqb a 10 e)) e)
 
-abbrev begun : ℕ → List Bytes → Bytes
-begun n [] = LF ∷ []
-begun n (l ∷ ls) = l ++ (LF ∷ lines n ls)
+-- bytes without a line break
+line-own : (n : ℕ) (fresh : Bool) (x y : Bytes) → Every (λ a. (a ≡ 10 → ⊥)) x → 0 < length x → indented n fresh (x ++ y) ≡ (when fresh then spaces n else []) ++ (x ++ indented n false y)
+unfolding indented
+line-own n fresh [] y ps h = absurd (omega arith)
+line-own n fresh (a ∷ []) y (more p ps) h = rw (ne_eqb a 10 p)
+line-own n fresh (a ∷ b ∷ x) y (more p ps) h = rw (ne_eqb a 10 p, line-own n false (b ∷ x) y ps (omega arith))
 
-lines-onto : (n b : ℕ) (ls : List Bytes) → lines n (onto_first b ls) ≡ spaces n ++ (b ∷ begun n ls)
-lines-onto n b [] = append-nil (spaces n ++ (b ∷ LF ∷ []))
-lines-onto n b (l ∷ ls) = append_assoc (spaces n) ((b ∷ l) ++ (LF ∷ [])) (lines n ls) ∙ ap (λ (x : Bytes). spaces n ++ (b ∷ x)) (append_assoc l (LF ∷ []) (lines n ls))
+module _ (n : ℕ) (s : Bytes) (i j : ℕ) (r : Run (λ a. (a ≡ 10 → ⊥)) s i j) (h : i < j) where
+  line-run : (fresh : Bool) → indented n fresh (drop i s) ≡ (when fresh then spaces n else []) ++ (take (j - i) (drop i s) ++ indented n false (drop j s))
+  line-run fresh =
+      ap (indented n fresh) (parted s i j r.on)
+      ∙ line-own n fresh (take (j - i) (drop i s)) (drop j s) r.each (rw (run_length (λ a. (a ≡ 10 → ⊥)) s i j r) (omega arith))
 
-begun-onto : (n b : ℕ) (ls : List Bytes) → begun n (onto_first b ls) ≡ b ∷ begun n ls
-begun-onto n b [] = refl
-begun-onto n b (l ∷ ls) = refl
+  pub line-begun : (fresh : Bool) (P P₁ P₂ : Pen) → fresh ≡ true → P₁ ≡ puts (spaces n) P → P₂ ≡ puts (take (j - i) (drop i s)) P₁
+      → puts (indented n false (drop j s)) P₂ ≡ puts (indented n fresh (drop i s)) P
+  line-begun fresh P P₁ P₂ g w v =
+      rw (v, w, g, line-run true) (sym (puts-append (spaces n) _ P ∙ puts-append (take (j - i) (drop i s)) _ (puts (spaces n) P)))
 
-mutual
-  unfolding indented
-
-  pub by_lines : (n : ℕ) (s : Bytes) → indented n true s ≡ lines n (slice_split (λ b. eqb b 10) s)
-  by_lines n [] = refl
-  by_lines n (b ∷ s) = go (eqb b LF) (by_lines n s) (by_begun n s)
-    where
-      go : (k : Bool) → indented n true s ≡ lines n (slice_split (λ b. eqb b 10) s) → indented n false s ≡ begun n (slice_split (λ b. eqb b 10) s)
-          → (when k then LF ∷ indented n true s else spaces n ++ (b ∷ indented n false s)) ≡ lines n (cond k ([] ∷ slice_split (λ b. eqb b 10) s) (onto_first b (slice_split (λ b. eqb b 10) s)))
-      go true e f = ap (λ (x : Bytes). LF ∷ x) e
-      go false e f = rw f (sym (lines-onto n b (slice_split (λ b. eqb b 10) s)))
-
-  by_begun : (n : ℕ) (s : Bytes) → indented n false s ≡ begun n (slice_split (λ b. eqb b 10) s)
-  by_begun n [] = refl
-  by_begun n (b ∷ s) = go (eqb b LF) (by_lines n s) (by_begun n s)
-    where
-      go : (k : Bool) → indented n true s ≡ lines n (slice_split (λ b. eqb b 10) s) → indented n false s ≡ begun n (slice_split (λ b. eqb b 10) s)
-          → (when k then LF ∷ indented n true s else b ∷ indented n false s) ≡ begun n (cond k ([] ∷ slice_split (λ b. eqb b 10) s) (onto_first b (slice_split (λ b. eqb b 10) s)))
-      go true e f = ap (λ (x : Bytes). LF ∷ x) e
-      go false e f = rw f (sym (begun-onto n b (slice_split (λ b. eqb b 10) s)))
-
--- one line more is written
-lines-push : (n : ℕ) (ls : List Bytes) (l : Bytes) → lines n (ls ++ (l ∷ [])) ≡ lines n ls ++ line n l
-lines-push n [] l = append-nil (line n l)
-lines-push n (x ∷ ls) l = ap (λ (r : Bytes). line n x ++ r) (lines-push n ls l) ∙ sym (append_assoc (line n x) (lines n ls) (line n l))
-
-now-push : (xs : List (Bor Bytes)) (x : Bor Bytes) → map (λ (y : Bor Bytes). y.now) (xs ++ (x ∷ [])) ≡ map (λ (y : Bor Bytes). y.now) xs ++ (x.now ∷ [])
-now-push [] x = refl
-now-push (y ∷ xs) x = ap (λ (r : List Bytes). y.now ∷ r) (now-push xs x)
-
-pub line_on : (n : ℕ) (xs : List (Bor Bytes)) (x : Bor Bytes) (P Q R : Pen) → Q ≡ puts (lines n (map (λ (y : Bor Bytes). y.now) xs)) P → R ≡ puts (line n x.now) Q
-    → R ≡ puts (lines n (map (λ (y : Bor Bytes). y.now) (xs ++ (x ∷ [])))) P
-line_on n xs x P Q R e f = rw (now-push xs x, lines-push n (map (λ (y : Bor Bytes). y.now) xs) x.now) (and_then P _ _ e f)
-
-pub line_some : (n : ℕ) (l : Bytes) (P P₁ P₂ P₃ : Pen) → (length l ≡ 0 → ⊥) → P₁ ≡ puts (spaces n) P → P₂ ≡ puts l P₁ → P₃ ≡ put1 P₂ 10 → P₃ ≡ puts (line n l) P
-unfolding puts
-line_some n [] P P₁ P₂ P₃ h a b c = absurd (h refl)
-line_some n (x ∷ l) P P₁ P₂ P₃ h a b c = and_then P (spaces n) ((x ∷ l) ++ (10 ∷ [])) a (and_then P₁ (x ∷ l) (10 ∷ []) b c)
-
-pub line_none : (n : ℕ) (l : Bytes) (P P₁ : Pen) → length l ≡ 0 → P₁ ≡ put1 P 10 → P₁ ≡ puts (line n l) P
-unfolding puts
-line_none n [] P P₁ h a = a
-line_none n (x ∷ l) P P₁ h a = absurd (omega arith)
+  pub line_on : (fresh : Bool) (P P₁ : Pen) → fresh ≡ false → P₁ ≡ puts (take (j - i) (drop i s)) P
+      → puts (indented n false (drop j s)) P₁ ≡ puts (indented n fresh (drop i s)) P
+  line_on fresh P P₁ g v = rw (v, g, line-run false) (sym (puts-append (take (j - i) (drop i s)) _ P))
 
 -- ---- the line breaks at the end, counted backward
 

@@ -2,7 +2,7 @@
 #![tactic(auto)]
 
 ghost use Rattle.std.specs.Prelude.{◌≡◌, ◌<◌, ◌≤◌, length, set};
-ghost use Rattle.changes.specs.Filled.{laid, filled};
+ghost use Rattle.changes.specs.Filled.{started, filled};
 
 use definition::Change;
 use files::Walk;
@@ -16,24 +16,18 @@ pub fn store_change(list: &mut [Change], at: usize, change: Change)
     list[at] = change;
 }
 
-// Writes the next n changed files of a walk over the deck one after another, and stores their entries at the front of a lent list; the walk
-// after them. None: one of them has no room.
-pub fn fill_list(
-    list: &mut [Change],
-    given: &Given,
-    out: &mut [u8],
-    first: Walk,
-    n: usize,
-) -> Option<Walk>
+// Writes the next n changed files of a walk over the deck one after another, and stores their entries at the front of a lent list; hands the walk
+// after the last of them back. From where a file has no room, or there is none, entries are zeros.
+pub fn fill_list(list: &mut [Change], given: &Given, out: &mut [u8], first: Walk, n: usize) -> Walk
     requires { n ≤ length list.old }
-    ensures { laid result out.new list.new
-        ≡ filled given.now.deck.now given.now.pool.now 0 n first out.old list.old }
+    ensures { started result out.new list.new
+        ≡ filled given.now.deck.now given.now.pool.now 0 n (started first out.old list.old) }
 {
     let mut w = first;
     for i in 0..n {
-        let made = files::next_file(given, out, w)?;
+        let made = files::next_file(given, out, w);
         store_change(list, i, made.change);
         w = made.next;
     }
-    Some(w)
+    w
 }

@@ -36,10 +36,14 @@ fn copy(piece: &[u8], out: &mut [u8], to: usize) -> usize
     to + n
 }
 
+// Puts a piece into the output so many times. A run of nothing is done at once, however often it is said to stand there.
 fn repeat(piece: &[u8], times: usize, out: &mut [u8], to: usize) -> usize
     requires { to ≤ length out.old }
     ensures { result ≤ length out.new }
 {
+    if piece.is_empty() {
+        return to;
+    }
     let mut end = to;
     for _ in 0..times {
         end = copy(piece, out, end);

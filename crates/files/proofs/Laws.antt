@@ -5,15 +5,13 @@ use Prim.Native.Nat.{ℕ, suc, ◌+◌, ◌-◌, ◌<◌, ◌≤◌}
 use native.Mathlib.Omega.{arith}
 use mathlib.Core.Bool.{true, false}
 use mathlib.Core.List.{[], ◌++◌, append-nil}
-use lib.Dec.{ltb}
-use lib.Seq.{length-take-le}
-use lib.ListN.{length, length-append, take, drop, length-drop, drop_of_length-le}
+use lib.ListN.{length, take, drop, length-drop, drop_of_length-le}
 use borrow.Author.Rules.{part_to_end}
-use borrow.Author.Tests.{lt-ltb, le-ltb}
-use Rattle.std.specs.Prelude.{Option, None, Some}
-use Rattle.definition.specs.Base.{Bytes, when◌then◌else◌}
+use Rattle.std.specs.Prelude.{None, Some}
+use Rattle.definition.specs.Base.{Bytes}
 use Rattle.definition.specs.Settings.{null_as, plain_settings}
 use Rattle.definition.specs.Document.{one_document}
+use Rattle.definition.specs.Calls.{no_change}
 use Rattle.definition.specs.declared.Cursor.{Cursor}
 use Rattle.definition.specs.declared.Settings.{Settings}
 use Rattle.pen.specs.declared.Writer.{Writer}
@@ -27,8 +25,8 @@ use Rattle.files.specs.declared.Walk.{Walk}
 use Rattle.files.specs.declared.Made.{Made}
 use Rattle.files.specs.declared.Found.{Found}
 use Rattle.files.specs.Scan.{step_at, step-onward}
-use Rattle.files.specs.Files.{found_or, found_from, found_at, file_pen, Step, still, made_of, file_step, found_step, is_ready, made_at, out_after, Finds}
-use Rattle.files.specs.Step.{step-unready, step-found}
+use Rattle.files.specs.Files.{found_or, found_from, found_at, file_pen, Step, still, made_of, file_step, is_ready, step_of, made_at, out_after, Finds}
+use Rattle.files.specs.Step.{step-unready, step-none, step-file}
 
 -- ---- heads
 
@@ -86,54 +84,37 @@ file-pen deck pool out start c s w v to e f q =
 nothing-after : (out : Bytes) (start : ℕ) → drop (length out - start) (drop start out) ≡ []
 nothing-after out start = drop_of_length-le (drop start out) {i = length out - start} (rw (length-drop start out) (omega arith))
 
--- the output keeps its length
-kept : (out to : Bytes) (start : ℕ) → length to ≡ length (part start out) → start ≤ length out → length (take start out ++ (to ++ drop (length out - start) (drop start out))) ≡ length out
-kept out to start t h =
-    let a : length (take start out) ≡ start = length-take-le start out h in
-    let b : length to ≡ length out - start = t ∙ ap length (part_to_end out start) ∙ length-drop start out in
-    simp (length-append, length-drop) (omega (arith, a, b, h))
-
-module _ (deck pool out : Bytes) (start : ℕ) (f : Found) (s : Settings) (w v : Writer) (to : Bytes) (n : ℕ) (l : n ≡ (fields v).len) (e : s ≡ plain_settings) (g : fields w ≡ begun s)
-    (q : pen v to ≡ ended (ink s (one_document s true (node_at deck pool f.at)) (pen w (part start out)))) where
-  abbrev Writes : Option Made → Type 0
-  Writes r = (r ≡ (file_step deck pool out start f).made) × (take start out ++ (to ++ drop (length out - start) (drop start out)) ≡ (file_step deck pool out start f).out)
-
-  written : Writes (when ltb (length out) (start + n) then None else Some (made_of start n f))
-  unfolding file_step
-  written =
-      let z = file-pen deck pool out start f.at s w v to e g q in (
-        ap (λ (k : ℕ). when ltb (length out) (start + k) then None else Some (made_of start k f)) (l ∙ ap (λ (p : Pen). p.w.len) z),
-        ap (λ (x : Bytes). take start out ++ (to ++ x)) (nothing-after out start) ∙ ap (λ (x : Bytes). take start out ++ x) (append-nil to) ∙ ap (λ (p : Pen). take start out ++ p.out) z,
-      )
-
-  module _ (t : length to ≡ length (part start out)) (h : start ≤ length out) where
-    abbrev after : Bytes
-    after = take start out ++ (to ++ drop (length out - start) (drop start out))
-
-    pub file-over : length after < start + n → Writes None
-    file-over o = rw (lt-ltb _ _ (rw (kept out to start t h) at o)) at written
-
-    pub file-done : start + n ≤ length after → Writes (Some (record { change = record { id = f.id; start = start; length = n }; next = record { at = f.next; start = start + n } }))
-    unfolding made_of
-    file-done o = rw (le-ltb _ _ (rw (kept out to start t h) at o)) at written
+pub file-done :
+    (deck pool out : Bytes) (start : ℕ) (f : Found) (s : Settings) (w v : Writer) (to : Bytes) (n : ℕ) → n ≡ (fields v).len → s ≡ plain_settings → fields w ≡ begun s
+    → pen v to ≡ ended (ink s (one_document s true (node_at deck pool f.at)) (pen w (part start out)))
+    → (record { change = record { id = f.id; start = start; length = n }; next = record { at = f.next; start = start + n } } ≡ (file_step deck pool out start f).made)
+    × (take start out ++ (to ++ drop (length out - start) (drop start out)) ≡ (file_step deck pool out start f).out)
+unfolding file_step made_of
+file-done deck pool out start f s w v to n l e g q =
+    let z = file-pen deck pool out start f.at s w v to e g q in (
+      ap (λ (k : ℕ). made_of start k f) (l ∙ ap (λ (p : Pen). p.w.len) z),
+      ap (λ (x : Bytes). take start out ++ (to ++ x)) (nothing-after out start) ∙ ap (λ (x : Bytes). take start out ++ x) (append-nil to) ∙ ap (λ (p : Pen). take start out ++ p.out) z,
+    )
 
 -- ---- the step
 
 module _ (deck pool out : Bytes) (w : Walk) where
-  abbrev Steps : Option Made → Bytes → Type 0
+  abbrev Steps : Made → Bytes → Type 0
   Steps r to = (r ≡ made_at deck pool out w) × (to ≡ out_after deck pool out w)
 
-  pub unready-still : false ≡ is_ready (length deck) (length pool) (length out) w → Steps None out
+  stayed : {r : Made} → step_of deck pool out w ≡ still out w → r ≡ record { change = no_change; next = w } → Steps r out
   unfolding made_at out_after still
-  unready-still e = let q = step-unready deck pool out w (sym e) in (sym (ap (λ (s : Step). s.made) q), sym (ap (λ (s : Step). s.out) q))
+  stayed q h = (h ∙ sym (ap (λ (s : Step). s.made) q), sym (ap (λ (s : Step). s.out) q))
+
+  pub unready-still : {r : Made} → false ≡ is_ready (length deck) (length pool) (length out) w → r ≡ record { change = no_change; next = w } → Steps r out
+  unready-still e h = stayed (step-unready deck pool out w (sym e)) h
 
   module _ (e : true ≡ is_ready (length deck) (length pool) (length out) w) where
-    pub none-still : Finds deck w.at None → Steps None out
-    unfolding made_at out_after found_step still
-    none-still t = let q = step-found deck pool out w (sym e) None (sym (t.told pool)) in (sym (ap (λ (s : Step). s.made) q), sym (ap (λ (s : Step). s.out) q))
+    pub none-still : {r : Made} → Finds deck w.at None → r ≡ record { change = no_change; next = w } → Steps r out
+    none-still t h = stayed (step-none deck pool out w (sym (t.told pool))) h
 
     pub file-stepped :
-        {f : Found} {r : Option Made} {to : Bytes} → Finds deck w.at (Some f)
+        {f : Found} {r : Made} {to : Bytes} → Finds deck w.at (Some f)
         → (r ≡ (file_step deck pool out w.start f).made) × (to ≡ (file_step deck pool out w.start f).out) → Steps r to
-    unfolding made_at out_after found_step
-    file-stepped {f} t p = let q = step-found deck pool out w (sym e) (Some f) (sym (t.told pool)) in (p.0 ∙ sym (ap (λ (s : Step). s.made) q), p.1 ∙ sym (ap (λ (s : Step). s.out) q))
+    unfolding made_at out_after
+    file-stepped {f} t p = let q = step-file deck pool out w (sym e) f (sym (t.told pool)) in (p.0 ∙ sym (ap (λ (s : Step). s.made) q), p.1 ∙ sym (ap (λ (s : Step). s.out) q))

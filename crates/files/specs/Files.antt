@@ -1,8 +1,9 @@
 -- One step: the next changed file from a walk on, written behind those before it, with its entry and the walk after it.
-use Rattle.std.specs.Prelude.{◌≡◌, ℕ, zero, suc, ◌+◌, ◌≤◌, Bool, true, ◌&&◌, ◌++◌, length, take, drop, leb, ltb, Option, None, Some, IfSome}
+use Rattle.std.specs.Prelude.{◌≡◌, ℕ, zero, suc, ◌+◌, ◌≤◌, Bool, true, ◌&&◌, ◌++◌, length, take, drop, leb, Option, None, Some, IfSome}
 use Rattle.definition.specs.Base.{Bytes, when◌then◌else◌}
 use Rattle.definition.specs.Settings.{plain_settings}
 use Rattle.definition.specs.Document.{one_document}
+use Rattle.definition.specs.Calls.{no_change}
 use Rattle.definition.specs.declared.Cursor.{Cursor}
 use Rattle.definition.specs.Records.{File}
 use Rattle.pen.specs.Pen.{Pen, page, ink, ended}
@@ -36,14 +37,13 @@ module _ (deck pool : Bytes) where
 unfoldable pub file_pen : Bytes → Bytes → Cursor → Bytes → Pen
 file_pen deck pool c out = ended (ink plain_settings (one_document plain_settings true (node_at deck pool c)) (page (begun plain_settings) out))
 
--- what is made, if there is a file and it has room; and the output
 pub record Step : Type 0 where
-  pub made : Option Made
+  pub made : Made
   pub out : Bytes
 
 -- nothing is made
-unfoldable pub still : Bytes → Step
-still out = record { made = None; out = out }
+unfoldable pub still : Bytes → Walk → Step
+still out w = record { made = record { change = no_change; next = w }; out = out }
 
 -- the entry of a file of n bytes, and the walk after it
 unfoldable pub made_of : ℕ → ℕ → Found → Made
@@ -51,26 +51,20 @@ made_of start n f = record { change = record { id = f.id; start = start; length 
 
 -- a file is written from a place of the output on
 unfoldable pub file_step : Bytes → Bytes → Bytes → ℕ → Found → Step
-file_step deck pool out start f =
-    let q = file_pen deck pool f.at (drop start out) in
-    let n = q.w.len in
-    record {
-      made = when ltb (length out) (start + n) then None else Some (made_of start n f);
-      out = take start out ++ q.out;
-    }
+file_step deck pool out start f = let q = file_pen deck pool f.at (drop start out) in record { made = made_of start q.w.len f; out = take start out ++ q.out }
 
 -- lengths of deck, pool and output within their limits, a walk within deck and output
 unfoldable pub is_ready : ℕ → ℕ → ℕ → Walk → Bool
 is_ready deck pool out w = leb deck 65536 && leb pool 65536 && leb out 1048576 && leb w.at.at deck && leb w.start out
 
-unfoldable pub found_step : Bytes → Bytes → Bytes → ℕ → Option Found → Step
-found_step deck pool out start None = still out
-found_step deck pool out start (Some f) = file_step deck pool out start f
+unfoldable pub found_step : Bytes → Bytes → Bytes → Walk → Option Found → Step
+found_step deck pool out w None = still out w
+found_step deck pool out w (Some f) = file_step deck pool out w.start f
 
 unfoldable pub step_of : Bytes → Bytes → Bytes → Walk → Step
-step_of deck pool out w = when is_ready (length deck) (length pool) (length out) w then found_step deck pool out w.start (found_at deck pool w.at) else still out
+step_of deck pool out w = when is_ready (length deck) (length pool) (length out) w then found_step deck pool out w (found_at deck pool w.at) else still out w
 
-unfoldable pub made_at : Bytes → Bytes → Bytes → Walk → Option Made
+unfoldable pub made_at : Bytes → Bytes → Bytes → Walk → Made
 made_at deck pool out w = (step_of deck pool out w).made
 
 unfoldable pub out_after : Bytes → Bytes → Bytes → Walk → Bytes

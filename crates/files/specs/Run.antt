@@ -1,7 +1,7 @@
--- Steps one after another: as many as a deck has changed files make the definition's entries and bytes, or end where one has no room.
-use Rattle.std.specs.Prelude.{◌≡◌, Bool, take, leb, ltb, Option, None, Some}
+-- Steps one after another: as many as a deck has changed files make the definition's entries and bytes, or end past the output.
+use Rattle.std.specs.Prelude.{◌≡◌, Bool, take, replicate, leb, Option, None, Some}
 use Rattle.std.proofs.Math.Path.{refl, ap}
-use Rattle.std.proofs.Common.{sym, subst, ◌∙◌, arith, drop-drop, lt-ltb, le-ltb, leb-true, leb-false}
+use Rattle.std.proofs.Common.{sym, subst, ◌∙◌, arith, drop-drop, leb-true, leb-false}
 use Prim.Native.Nat.{ℕ, zero, suc, ◌+◌, ◌-◌, ◌<◌, ◌≤◌}
 use Rattle.std.proofs.Math.Bool.{true, false}
 use mathlib.Core.List.{List, [], ◌∷◌, ◌++◌, append_assoc}
@@ -12,7 +12,7 @@ use Rattle.definition.specs.Settings.{plain_settings}
 use Rattle.definition.specs.Document.{one_document, emit_file}
 use Rattle.definition.specs.Change.{Written, changed, collect}
 use Rattle.definition.specs.Deck.{got, read_deck}
-use Rattle.definition.specs.Calls.{over, entries, bytes_of_all}
+use Rattle.definition.specs.Calls.{no_change, over, entries, bytes_of_all}
 use Rattle.definition.specs.declared.Change.{Change}
 use Rattle.definition.specs.declared.Cursor.{Cursor}
 use Rattle.pen.specs.Pen.{Pen, page}
@@ -25,33 +25,25 @@ use Rattle.node.specs.Total.{trees_of}
 use Rattle.told.proofs.Sound.{files-read}
 use Rattle.joints.specs.Entries.{node_at}
 use Rattle.files.specs.declared.Walk.{Walk}
-use Rattle.files.specs.declared.Made.{Made}
 use Rattle.files.specs.declared.Found.{Found}
 use Rattle.files.specs.Scan.{files_at, deck-files}
-use Rattle.files.specs.Files.{found_at, file_pen, still, made_of, file_step, is_ready, step_of}
+use Rattle.files.specs.Files.{found_at, file_pen, Step, still, made_of, file_step, is_ready, step_of}
 use Rattle.files.specs.Step.{ready-is, is-ready, unready, step-unready, step-none, step-file}
 use Rattle.files.specs.Next.{Next, next-found}
 
--- the walk at which a run of steps ends, if each of its files had room; the output, and the entries that were made
+-- where a run of steps ends: the walk, the output, and the entries that were made
 pub record Run : Type 0 where
-  pub end : Option Walk
+  pub walk : Walk
   pub out : Bytes
   pub made : List Change
 
--- on from what a step made, if it made something
-unfoldable pub on_made : Option Made → Bytes → (Walk → Bytes → Run) → Run
-on_made None out on = record { end = None; out = out; made = [] }
-on_made (Some m) out on = let r = on m.next out in record { end = r.end; out = r.out; made = m.change ∷ r.made }
-
 -- n steps from a walk on
 unfoldable pub run_of : Bytes → Bytes → ℕ → Walk → Bytes → Run
-run_of deck pool zero w out = record { end = Some w; out = out; made = [] }
-run_of deck pool (suc n) w out = let s = step_of deck pool out w in on_made s.made s.out (run_of deck pool n)
-
--- where a walk stands in the output
-unfoldable pub reaches : Option Walk → Option ℕ
-reaches None = None
-reaches (Some w) = Some w.start
+run_of deck pool zero w out = record { walk = w; out = out; made = [] }
+run_of deck pool (suc n) w out =
+    let s = step_of deck pool out w in
+    let r = run_of deck pool n s.made.next s.out in
+    record { walk = r.walk; out = r.out; made = s.made.change ∷ r.made }
 
 -- the walk that begins
 abbrev pub first_walk : Walk
@@ -59,18 +51,20 @@ first_walk = record { at = record { at = 0 }; start = 0 }
 
 -- files laid behind what is written, `pre`, over the front of `rest`
 record Fitted (pre rest : Bytes) (ws : List Written) (r : Run) : Type 0 where
-  end : reaches r.end ≡ Some (length pre + length (bytes_of_all ws))
+  start : r.walk.start ≡ length pre + length (bytes_of_all ws)
   out : r.out ≡ pre ++ over (bytes_of_all ws) rest
   made : r.made ≡ entries (length pre) ws
 
 module _ (deck pool : Bytes) where
-  -- ---- a run that is not ready makes nothing and leaves the output
+  -- ---- steps that make nothing
 
-  pub run-still : (n : ℕ) (w : Walk) (out : Bytes) → is_ready (length deck) (length pool) (length out) w ≡ false → run_of deck pool (suc n) w out ≡ record { end = None; out = out; made = [] }
-  unfolding run_of on_made still
-  run-still n w out e = rw (step-unready deck pool out w e)
+  pub run-still : (n : ℕ) (w : Walk) (out : Bytes) → is_ready (length deck) (length pool) (length out) w ≡ false → run_of deck pool n w out ≡ record { walk = w; out = out; made = replicate n no_change }
+  unfolding run_of still
+  run-still zero w out e = refl
+  run-still (suc n) w out e = rw (step-unready deck pool out w e, run-still n w out e)
 
-  pub run_past : (n : ℕ) (w : Walk) (out : Bytes) → length out < w.start → run_of deck pool (suc n) w out ≡ record { end = None; out = out; made = [] }
+  -- a walk past the output's end
+  pub run_past : (n : ℕ) (w : Walk) (out : Bytes) → length out < w.start → run_of deck pool n w out ≡ record { walk = w; out = out; made = replicate n no_change }
   run_past n w out h = run-still n w out (unready _ _ _ w (λ r. let z = r.room in absurd (omega (arith, z, h))))
 
   -- ---- every step keeps the output's length
@@ -95,17 +89,10 @@ module _ (deck pool : Bytes) where
       go true None e g = rw (step-none deck pool out w g) refl
       go true (Some f) e g = rw (step-file deck pool out w e f g) (file-step-length out w.start f (is-ready _ _ _ w e).room)
 
-  run-on :
-      (m : Option Made) (out : Bytes) (on : Walk → Bytes → Run) → ((w : Walk) (o : Bytes) → length (on w o).out ≡ length o)
-      → length (on_made m out on).out ≡ length out
-  unfolding on_made
-  run-on None out on h = refl
-  run-on (Some m) out on h = h m.next out
-
   pub run_length : (n : ℕ) (w : Walk) (out : Bytes) → length (run_of deck pool n w out).out ≡ length out
   unfolding run_of
   run_length zero w out = refl
-  run_length (suc n) w out = run-on (step_of deck pool out w).made (step_of deck pool out w).out (run_of deck pool n) (λ x o. run_length n x o) ∙ step-length w out
+  run_length (suc n) w out = run_length n (step_of deck pool out w).made.next (step_of deck pool out w).out ∙ step-length w out
 
   module _ (deck-small : length deck ≤ 65536) (pool-small : length pool ≤ 65536) where
     -- ---- one file behind what is written, `pre`, with room `rest`
@@ -120,7 +107,7 @@ module _ (deck pool : Bytes) where
 
     file-behind : (pre rest : Bytes) (f : Found) (q : Pen) → q ≡ file_pen deck pool f.at rest
         → file_step deck pool (pre ++ rest) (length pre) f
-        ≡ record { made = when ltb (length (pre ++ rest)) (length pre + q.w.len) then None else Some (made_of (length pre) q.w.len f); out = pre ++ q.out }
+        ≡ record { made = made_of (length pre) q.w.len f; out = pre ++ q.out }
     unfolding file_step
     file-behind pre rest f q e = rw (take-append_seam pre rest, drop-append_seam pre rest, e)
 
@@ -135,21 +122,20 @@ module _ (deck pool : Bytes) where
         (c : Cursor) (f : Found) (pre rest t : Bytes) → c.at ≤ length deck → length (pre ++ rest) ≤ 1048576 → found_at deck pool c ≡ Some f
         → Leaves rest t (file_pen deck pool f.at rest) → length t ≤ length rest
         → step_of deck pool (pre ++ rest) (walk_at c pre)
-        ≡ record { made = Some (record { change = record { id = f.id; start = length pre; length = length t }; next = walk_at f.next (pre ++ t) }); out = (pre ++ t) ++ drop (length t) rest }
+        ≡ record { made = record { change = record { id = f.id; start = length pre; length = length t }; next = walk_at f.next (pre ++ t) }; out = (pre ++ t) ++ drop (length t) rest }
     unfolding made_of
     step_fits c f pre rest t k o g l h =
         let e = l.fits h in
-        let y : ltb (length (pre ++ rest)) (length pre + length t) ≡ false = le-ltb _ _ (rw (length-append pre rest) (omega (arith, h))) in
-        step-here c f pre rest k o g ∙ file-behind pre rest f _ refl ∙ rw (e.0, e.1, y, length-append pre t, append_assoc pre t (drop (length t) rest))
+        step-here c f pre rest k o g ∙ file-behind pre rest f _ refl ∙ rw (e.0, e.1, length-append pre t, append_assoc pre t (drop (length t) rest))
 
-    -- or it has no room
+    -- it does not: the walk ends past the output
     step-over :
         (c : Cursor) (f : Found) (pre rest t : Bytes) → c.at ≤ length deck → length (pre ++ rest) ≤ 1048576 → found_at deck pool c ≡ Some f
-        → Leaves rest t (file_pen deck pool f.at rest) → length rest < length t → (step_of deck pool (pre ++ rest) (walk_at c pre)).made ≡ None
+        → Leaves rest t (file_pen deck pool f.at rest) → length rest < length t → length (pre ++ rest) < (step_of deck pool (pre ++ rest) (walk_at c pre)).made.next.start
+    unfolding made_of
     step-over c f pre rest t k o g l h =
         let e = l.over h in
-        let y : ltb (length (pre ++ rest)) (length pre + (file_pen deck pool f.at rest).w.len) ≡ true = lt-ltb _ _ (rw (length-append pre rest) (omega (arith, e))) in
-        rw (step-here c f pre rest k o g ∙ file-behind pre rest f _ refl, y)
+        rw (step-here c f pre rest k o g ∙ file-behind pre rest f _ refl) (rw (length-append pre rest) (omega (arith, e)))
 
     -- ---- all files
 
@@ -188,16 +174,15 @@ module _ (deck pool : Bytes) where
     -- they fit
     one-fitted :
         (pre rest : Bytes) (x : Written) (ws : List Written) (r : Run) (i : ℕ) → i ≡ x.id → Fitted (pre ++ x.bytes) (drop (length x.bytes) rest) ws r
-        → Fitted pre rest (x ∷ ws) (record { end = r.end; out = r.out; made = record { id = i; start = length pre; length = length x.bytes } ∷ r.made })
+        → Fitted pre rest (x ∷ ws) (record { walk = r.walk; out = r.out; made = record { id = i; start = length pre; length = length x.bytes } ∷ r.made })
     unfolding bytes_of_all over entries
     one-fitted pre rest x ws r i e f =
         let t = x.bytes in
         let bs = bytes_of_all ws in
         let a : length (pre ++ t) ≡ length pre + length t = length-append pre t in
         let b : length (t ++ bs) ≡ length t + length bs = length-append t bs in
-        let n : length (pre ++ t) + length bs ≡ length pre + length (t ++ bs) = omega (arith, a, b) in
         record {
-          end = f.end ∙ ap (λ (m : ℕ). Some m) n;
+          start = f.start ∙ rw (a, b) (omega arith);
           out = f.out ∙ append_assoc pre t _ ∙ ap (λ (l : Bytes). pre ++ l) (sym (append_assoc t bs _) ∙ ap (λ (l : Bytes). (t ++ bs) ++ l) (drop-drop (length bs) (length t) rest ∙ ap (λ (n : ℕ). drop n rest) (sym b)));
           made = rw (e, f.made, a);
         }
@@ -205,8 +190,8 @@ module _ (deck pool : Bytes) where
     run_fits :
         (ws : List Written) (c : Cursor) (pre rest : Bytes) → c.at ≤ length deck → length (pre ++ rest) ≤ 1048576 → FormedFiles (files_at deck pool c)
         → changed (files_at deck pool c) ≡ ws → length (bytes_of_all ws) ≤ length rest → Fitted pre rest ws (run_of deck pool (length ws) (walk_at c pre) (pre ++ rest))
-    unfolding run_of on_made reaches bytes_of_all over entries
-    run_fits [] c pre rest k o h e l = record { end = ap (λ (m : ℕ). Some m) (omega arith); out = refl; made = refl }
+    unfolding run_of bytes_of_all over entries
+    run_fits [] c pre rest k o h e l = record { start = omega arith; out = refl; made = refl }
     run_fits (x ∷ ws) c pre rest k o h e l =
         let s = split c x ws k e in
         let t = x.bytes in
@@ -218,10 +203,14 @@ module _ (deck pool : Bytes) where
         rw (step_fits c s.found pre rest t k o s.is (s.leaves h rest) (omega (arith, b, l))) (one-fitted pre rest x ws _ _ s.id i)
 
     -- or they do not
+    run-next : (n : ℕ) (w : Walk) (out : Bytes) (s : Step) → step_of deck pool out w ≡ s → (run_of deck pool (suc n) w out).walk ≡ (run_of deck pool n s.made.next s.out).walk
+    unfolding run_of
+    run-next n w out s e = ap (λ (x : Step). (run_of deck pool n x.made.next x.out).walk) e
+
     run-over :
         (ws : List Written) (c : Cursor) (pre rest : Bytes) → c.at ≤ length deck → length (pre ++ rest) ≤ 1048576 → FormedFiles (files_at deck pool c)
-        → changed (files_at deck pool c) ≡ ws → length rest < length (bytes_of_all ws) → (run_of deck pool (length ws) (walk_at c pre) (pre ++ rest)).end ≡ None
-    unfolding run_of on_made bytes_of_all
+        → changed (files_at deck pool c) ≡ ws → length rest < length (bytes_of_all ws) → length (pre ++ rest) < (run_of deck pool (length ws) (walk_at c pre) (pre ++ rest)).walk.start
+    unfolding bytes_of_all
     run-over [] c pre rest k o h e l = absurd (omega (arith, l))
     run-over (x ∷ ws) c pre rest k o h e l =
         go (leb (length x.bytes) (length rest)) refl
@@ -244,12 +233,18 @@ module _ (deck pool : Bytes) where
         go :
             (y : Bool) → leb (length t) (length rest) ≡ y
             → (length rest - length t < length (bytes_of_all ws) → length ((pre ++ t) ++ drop (length t) rest) ≡ length (pre ++ rest)
-            → (run_of deck pool (length ws) (walk_at s.found.next (pre ++ t)) ((pre ++ t) ++ drop (length t) rest)).end ≡ None)
-            → (run_of deck pool (suc (length ws)) (walk_at c pre) (pre ++ rest)).end ≡ None
+            → length ((pre ++ t) ++ drop (length t) rest) < (run_of deck pool (length ws) (walk_at s.found.next (pre ++ t)) ((pre ++ t) ++ drop (length t) rest)).walk.start)
+            → length (pre ++ rest) < (run_of deck pool (suc (length ws)) (walk_at c pre) (pre ++ rest)).walk.start
         go true q i =
             let f : length t ≤ length rest = leb-true _ _ q in
-            rw (step_fits c s.found pre rest t k o s.is (s.leaves h rest) f) (i (omega (arith, b, l, f)) (kept f))
-        go false q i = rw (step-over c s.found pre rest t k o s.is (s.leaves h rest) (leb-false _ _ q))
+            let j = i (omega (arith, b, l, f)) (kept f) in
+            rw (run-next (length ws) (walk_at c pre) (pre ++ rest) _ (step_fits c s.found pre rest t k o s.is (s.leaves h rest) f)) (rw (kept f) at j)
+        go false q i =
+            let f : length rest < length t = leb-false _ _ q in
+            let w = (step_of deck pool (pre ++ rest) (walk_at c pre)).made.next in
+            let j : length (pre ++ rest) < w.start = step-over c s.found pre rest t k o s.is (s.leaves h rest) f in
+            let z : length (step_of deck pool (pre ++ rest) (walk_at c pre)).out < w.start = rw (step-length (walk_at c pre) (pre ++ rest)) j in
+            rw (run-next (length ws) (walk_at c pre) (pre ++ rest) _ refl ∙ ap (λ (r : Run). r.walk) (run_past (length ws) w (step_of deck pool (pre ++ rest) (walk_at c pre)).out z)) j
 
     -- ---- a deck that is read
 
@@ -264,17 +259,17 @@ module _ (deck pool : Bytes) where
       formed : FormedFiles (files_at deck pool (record { at = 0 }))
       formed = subst FormedFiles (deck-files deck pool deck-small) (files-read deck pool (trees_of deck pool) end read)
 
-      -- where the files have room: the run ends at their end, their bytes lie over the front of the output, the entries are theirs
+      -- where the files have room: the walk ends at their end, their bytes lie over the front of the output, the entries are theirs
       pub files-fit :
           length (bytes_of_all (collect (trees_of deck pool))) ≤ length out
-          → (reaches run.end ≡ Some (length (bytes_of_all (collect (trees_of deck pool)))))
+          → (run.walk.start ≡ length (bytes_of_all (collect (trees_of deck pool))))
           × (run.out ≡ over (bytes_of_all (collect (trees_of deck pool))) out)
           × (run.made ≡ entries 0 (collect (trees_of deck pool)))
       files-fit h =
           let f = run_fits (collect (trees_of deck pool)) (record { at = 0 }) [] out (omega arith) room formed these h in
           let z : 0 + length (bytes_of_all (collect (trees_of deck pool))) ≡ length (bytes_of_all (collect (trees_of deck pool))) = omega arith in
-          (f.end ∙ ap (λ (m : ℕ). Some m) z, f.out, f.made)
+          (f.start ∙ z, f.out, f.made)
 
-      -- where they have not, one of them has none
-      pub files-over : length out < length (bytes_of_all (collect (trees_of deck pool))) → run.end ≡ None
+      -- where they have not, the walk ends past the output
+      pub files-over : length out < length (bytes_of_all (collect (trees_of deck pool))) → length out < run.walk.start
       files-over h = run-over (collect (trees_of deck pool)) (record { at = 0 }) [] out (omega arith) room formed these h

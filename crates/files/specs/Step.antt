@@ -46,19 +46,19 @@ module _ (deck pool out : ℕ) (w : Walk) where
 -- ---- the step
 
 module _ (deck pool out : Bytes) (w : Walk) where
-  pub step-unready : is_ready (length deck) (length pool) (length out) w ≡ false → step_of deck pool out w ≡ still out
+  pub step-unready : is_ready (length deck) (length pool) (length out) w ≡ false → step_of deck pool out w ≡ still out w
   unfolding step_of
   step-unready e = rw e
 
-  pub step-found : is_ready (length deck) (length pool) (length out) w ≡ true → (f : Option Found) → found_at deck pool w.at ≡ f → step_of deck pool out w ≡ found_step deck pool out w.start f
+  pub step-found : is_ready (length deck) (length pool) (length out) w ≡ true → (f : Option Found) → found_at deck pool w.at ≡ f → step_of deck pool out w ≡ found_step deck pool out w f
   unfolding step_of
   step-found e f g = rw (e, g)
 
-  pub step-none : found_at deck pool w.at ≡ None → step_of deck pool out w ≡ still out
+  pub step-none : found_at deck pool w.at ≡ None → step_of deck pool out w ≡ still out w
   unfolding step_of found_step
   step-none e = rw e (go (is_ready (length deck) (length pool) (length out) w))
     where
-      go : (b : Bool) → (when b then still out else still out) ≡ still out
+      go : (b : Bool) → (when b then still out w else still out w) ≡ still out w
       go true = refl
       go false = refl
 

@@ -2,13 +2,14 @@
 #![tactic(auto)]
 
 ghost use Rattle.std.specs.Prelude.{◌≡◌, ◌≤◌, length};
+ghost use Rattle.definition.specs.Calls.{no_change};
 ghost use Rattle.spot.specs.Spot.{spot_at};
 ghost use Rattle.files.specs.Files.{Finds, file_step, is_ready, made_at, out_after};
 
 use definition::{Change, Cursor, NullStyle, Settings};
 use given::Given;
 
-// Where the walk over the deck stands, and where the next file starts in the output.
+// Where the walk over the deck stands, and where the next file starts in the output. A walk that stands past the output makes entries of zeros.
 #[derive(Clone, Copy)]
 pub struct Walk {
     pub at: Cursor,
@@ -46,8 +47,8 @@ fn find(deck: &[u8], c: Cursor) -> Option<Found>
     None
 }
 
-// A file is written from a place of the output on, by a writer of its own, under plain settings. None: it has no room there.
-fn write_file(given: &Given, out: &mut [u8], start: usize, found: Found) -> Option<Made>
+// A file is written from a place of the output on, by a writer of its own, under plain settings.
+fn write_file(given: &Given, out: &mut [u8], start: usize, found: Found) -> Made
     requires { (length out.old ≤ 1048576) × (start ≤ length out.old) × (found.at.at ≤ length given.now.deck.now) × (length given.now.deck.now ≤ 65536) × (length given.now.pool.now ≤ 65536) }
     ensures { (result ≡ (file_step given.now.deck.now given.now.pool.now out.old start found).made) × (out.new ≡ (file_step given.now.deck.now given.now.pool.now out.old start found).out) }
 {
@@ -59,11 +60,7 @@ fn write_file(given: &Given, out: &mut [u8], start: usize, found: Found) -> Opti
     let w = pen::fresh_writer(&plain.settings);
     let v = document::write_one(w, &plain, &mut out[start..], found.at, true);
     let length = v.len();
-    let end = start + length;
-    if out.len() < end {
-        return None;
-    }
-    Some(Made {
+    Made {
         change: Change {
             id: found.id,
             start,
@@ -71,9 +68,9 @@ fn write_file(given: &Given, out: &mut [u8], start: usize, found: Found) -> Opti
         },
         next: Walk {
             at: found.next,
-            start: end,
+            start: start + length,
         },
-    })
+    }
 }
 
 // Deck, pool and output are within their limits, and the walk within deck and output.
@@ -84,13 +81,31 @@ fn is_ready(deck: usize, pool: usize, out: usize, w: Walk) -> bool
     deck <= 65536 && pool <= 65536 && out <= 1048576 && w.at.at <= deck && w.start <= out
 }
 
-// The next changed file from a walk on, written into the output; its entry, and the walk after it. None: there is none, or it has no room.
-pub fn next_file(given: &Given, out: &mut [u8], w: Walk) -> Option<Made>
+// No file: an entry of zeros, and the same walk.
+#[tactic(auto, unfolding(definition::specs::Calls::no_change))]
+fn stay(w: Walk) -> Made
+    ensures { result ≡ record { change = no_change; next = w } }
+{
+    Made {
+        change: Change {
+            id: 0,
+            start: 0,
+            length: 0,
+        },
+        next: w,
+    }
+}
+
+// The next changed file from a walk on, written into the output; its entry, and the walk after it. Where the file has no room the walk stands
+// past the output.
+pub fn next_file(given: &Given, out: &mut [u8], w: Walk) -> Made
     ensures { (result ≡ made_at given.now.deck.now given.now.pool.now out.old w) × (out.new ≡ out_after given.now.deck.now given.now.pool.now out.old w) }
 {
     if !is_ready(given.deck.len(), given.pool.len(), out.len(), w) {
-        return None;
+        return stay(w);
     }
-    let found = find(given.deck, w.at)?;
-    write_file(given, out, w.start, found)
+    match find(given.deck, w.at) {
+        Some(found) => write_file(given, out, w.start, found),
+        None => stay(w),
+    }
 }

@@ -1,7 +1,7 @@
 // The judge: how many trees a deck is read into, or its refusal. It is the definition's reader without the trees.
 #![tactic(auto)]
 
-ghost use Rattle.std.specs.Prelude.{◌≡◌, [], ◌∷◌, ◌+◌, ◌≤◌, length, take, drop};
+ghost use Rattle.std.specs.Prelude.{◌≡◌, false, [], ◌∷◌, ◌+◌, ◌≤◌, length, take, drop};
 ghost use Rattle.definition.specs.Utf8.{well_formed};
 ghost use Rattle.definition.specs.Deck.{references, texts_fault, meant, in_order, sound, read_record, read_node, read_deck};
 ghost use Rattle.judge.specs.Judge.{fault_told, step_told, told, step_of, lead_of, Fitting, verdict_of, Known};
@@ -186,22 +186,30 @@ impl Reader<'_> {
     }
 }
 
-// How many trees the deck holds, or its refusal. Of a pool that is not well formed as a whole a table spares looking at a whole text once for
-// each of its references.
+// The same of a pool that is not well formed as a whole: a table spares looking at a whole text once for each of its references. It has a function
+// of its own, since a function pays for its locals when it is entered.
+fn judge_torn(deck: &[u8], pool: &[u8]) -> Result<usize, Refusal>
+    requires { (length pool.now ≤ 65536) × (well_formed pool.now ≡ false) }
+    ensures { told result ≡ verdict_of (read_deck deck.now pool.now) }
+{
+    let mut ends = [0u32; 1025];
+    utf8::mark_runs(pool, &mut ends);
+    Reader {
+        deck,
+        pool,
+        whole: false,
+        ends: &ends,
+    }
+    .trees()
+}
+
+// How many trees the deck holds, or its refusal.
 pub fn judge(deck: &[u8], pool: &[u8]) -> Result<usize, Refusal>
     ensures { told result ≡ verdict_of (read_deck deck.now pool.now) }
 {
     let whole = utf8::well_formed(pool);
     if !whole && pool.len() <= 65536 {
-        let mut ends = [0u32; 1025];
-        utf8::mark_runs(pool, &mut ends);
-        return Reader {
-            deck,
-            pool,
-            whole,
-            ends: &ends,
-        }
-        .trees();
+        return judge_torn(deck, pool);
     }
     Reader {
         deck,

@@ -1,5 +1,5 @@
 // The rows of a list, one after another. A list is any bytes: what lies past its end reads as 0, and a row that is cut off ends the run.
-ghost use Rattle.std.specs.Prelude.{◌≤◌, length};
+ghost use Rattle.std.specs.Prelude.{◌≡◌, ℕ, ◌≤◌, length, drop, IfOk, IfSome};
 
 use std::io;
 use std::io::Write;
@@ -28,7 +28,9 @@ fn holds(row: &[u8], t: &[u8], note: &[u8], want: &[u8]) -> bool
 }
 
 // Runs the row that a list begins with. The answer is the list after it, or none if it is cut off.
-fn sample<'a>(rt: &HostRuntime, rows: &'a [u8]) -> io::Result<Option<&'a [u8]>> {
+fn sample<'a>(rt: &HostRuntime, rows: &'a [u8]) -> io::Result<Option<&'a [u8]>>
+    ensures { IfOk result (λ answer. IfSome answer (λ rest. (n : ℕ) × (n ≤ length rows.now) × (rest.now ≡ drop n rows.now))) }
+{
     let text = HEAD + deck::word(rows, 12);
     let note = text + deck::word(rows, 14);
     let want = note + deck::word(rows, 16);

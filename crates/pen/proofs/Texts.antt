@@ -7,12 +7,24 @@ use lib.ListN.{length, get_or, set, take, drop, replicate, length-set, length-re
 use lib.Seq.{sets, sets-eq, drop-drop, take-nil, take-length, length-take-le, set_out, get_or-set_other}
 use lib.Dec.{eqb, leb}
 use Rattle.std.proofs.Common.{take-append-drop, length-drop}
+use Rattle.std.proofs.Math.Seq.{take-suc}
+use Rattle.std.proofs.lemmas.List.{take_more_set, take_all}
 use borrow.Author.Tests.{leb-true, leb-false, eq-eqb, ne_eqb}
 use borrow.Rule.Slice.PartMut.{put_mid, mid_of}
 use mathlib.Core.Bool.{Bool, true, false}
 use Rattle.definition.specs.Base.{Bytes, when◌then◌else◌}
 use Rattle.definition.specs.Ascii.{LF}
 use Rattle.pen.specs.Pen.{Fields, Pen, page, moved, put_to, at_column, next_column, column_after, column_over, column_past, put1, puts}
+
+-- ---- copying
+
+-- one byte more is copied
+pub copied-more : (o t : Bytes) (i : ℕ) → take i o ≡ take i t → i < length o → i < length t → take (i + 1) (set o i (get_or t i 0)) ≡ take (i + 1) t
+copied-more o t i e h k = let n : i + 1 ≡ suc i = omega arith in take_more_set o i _ h ∙ rw (e, n) (sym (take-suc t i 0 k))
+
+-- all are
+pub copied-all : (o t : Bytes) (i : ℕ) → take i o ≡ take i t → length o ≡ length t → length t ≤ i → o ≡ t
+copied-all o t i e l h = sym (take_all i o (rw l h)) ∙ e ∙ take_all i t h
 
 -- ---- storing what has room
 

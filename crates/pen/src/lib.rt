@@ -2,7 +2,7 @@
 // finished bytes fit is known also where the last line break is dropped again.
 #![tactic(auto)]
 
-ghost use Rattle.std.specs.Prelude.{◌≡◌, ℕ, ◌+◌, ◌-◌, ◌/◌, ◌%◌, ◌<◌, ◌^◌, min, max, not, [], length, get_or, replicate, eqb};
+ghost use Rattle.std.specs.Prelude.{◌≡◌, ℕ, ◌+◌, ◌-◌, ◌/◌, ◌%◌, ◌<◌, ◌^◌, min, max, not, [], ◌∷◌, length, get_or, replicate, eqb};
 ghost use Rattle.std.proofs.lemmas.List.Edits.{sets};
 ghost use Rattle.definition.specs.Base.{spaces, when◌then◌else◌};
 ghost use Rattle.definition.specs.Pen.{hashed, ends_closed};
@@ -54,12 +54,38 @@ fn column_after(column: usize, most: usize, b: u8, n: usize) -> usize
     }
 }
 
+// The column after a byte, where it was `column` before it: once for each byte of a text that may be folded, so with as few steps as may be.
+#[tactic(auto, unfolding(crate::specs::Pen::column_over))]
+fn next_column(column: usize, most: usize, b: u8) -> usize
+    requires { most < 2 ^ 28 }
+    ensures { (result ≡ column_over most column (b ∷ [])) × (result < 2 ^ 28) }
+{
+    if b == b'\n' {
+        0
+    } else if column < most {
+        column + 1
+    } else {
+        most
+    }
+}
+
 // The column after a text.
 fn column_over(column: usize, most: usize, t: &[u8]) -> usize
     requires { (column < 2 ^ 28) × (most < 2 ^ 28) }
     ensures { (result ≡ column_over most column t.now) × (result < 2 ^ 28) }
 {
-    t.iter().fold(column, |c, b| column_after(c, most, *b, 1))
+    t.iter().fold(column, |c, b| next_column(c, most, *b))
+}
+
+// Copies a text over a slice of its length. A loop, and not `copy_from_slice`: most texts are short, and that is a call of the C library, by a name
+// that the archive would have to be given (docs/DESIGN-PASS.md).
+fn copy(out: &mut [u8], t: &[u8])
+    requires { length out.old ≡ length t.now }
+    ensures { out.new ≡ t.now }
+{
+    for i in 0..t.len() {
+        out[i] = t[i];
+    }
 }
 
 // Stores of a text what has room from a place on.
@@ -68,7 +94,7 @@ fn copy_to(out: &mut [u8], at: usize, t: &[u8])
 {
     let start = at.min(out.len());
     let end = at.saturating_add(t.len()).min(out.len());
-    out[start..end].copy_from_slice(&t[..end - start]);
+    copy(&mut out[start..end], &t[..end - start]);
 }
 
 // Stores of a byte `n` times what has room from a place on.
@@ -212,7 +238,7 @@ impl Writer {
         ensures { pen result out.new ≡ put1 (pen self out.old) b }
     {
         let most = out.len() + 2;
-        let w = self.past(|c| column_after(c, most, b, 1)).put_on(out, 1, b);
+        let w = self.past(|c| next_column(c, most, b)).put_on(out, 1, b);
         let len = self.len();
         if len < out.len() {
             out[len] = b;

@@ -190,14 +190,17 @@ pub fn put_single(w: Writer, out: &mut [u8], a: u8) -> Writer
     requires { length out.old < 2 ^ 21 }
     ensures { pen result out.new ≡ puts (single_piece a 0 0) (pen w out.old) }
 {
-    put_piece(w, out, single_piece(a))
+    if a == b'\'' {
+        return put_pair(w, out, a, a);
+    }
+    w.byte(out, a)
 }
 
-// Between double quotes the byte begins an escape, at least before certain others.
+// Between double quotes the byte begins an escape, at least before certain others. Most bytes are small letters: these are told first.
 fn is_marked(a: u8) -> bool
     ensures { result ≡ marked a }
 {
-    a < 0x20 || matches!(a, b'"' | b'\\' | 0x7f | 0xc2 | 0xef)
+    !matches!(a, 0x5d..=0x7e) && (a < 0x20 || matches!(a, b'"' | b'\\' | 0x7f | 0xc2 | 0xef))
 }
 
 // Whether the byte begins no escape and is not `stop`, so that it is written as it is. A byte that begins an escape only before certain
@@ -206,8 +209,7 @@ fn is_marked(a: u8) -> bool
 fn is_own(a: u8, stop: u8, single: bool) -> bool
     ensures { result ≡ true → Own (quote_by single) stop a }
 {
-    let own = if single { a != b'\'' } else { !is_marked(a) };
-    own && a != stop
+    a != stop && if single { a != b'\'' } else { !is_marked(a) }
 }
 
 // Where the bytes that are written as they are end, from a place on.

@@ -5,16 +5,13 @@ use Prim.Native.Nat.{ℕ, ◌<◌, ◌≤◌}
 use mathlib.Core.Bool.{true, false, true≢false}
 use mathlib.Core.List.{List}
 use lib.ListN.{length, replicate}
-use native.Mathlib.Omega.{arith}
 use borrow.Author.Tests.{lt-ltb, le-ltb}
-use Rattle.std.specs.Prelude.{Option, None, Some, Result, Ok, Err}
-use Rattle.std.specs.Option.{ok_or}
+use Rattle.std.specs.Prelude.{Result, Ok, Err}
 use Rattle.std.specs.Result.{is_err}
 use Rattle.definition.specs.Base.{Bytes}
-use Rattle.definition.specs.Calls.{Lent, no_change, no_room, write_changed}
+use Rattle.definition.specs.Calls.{Lent, no_change, no_room}
 use Rattle.definition.specs.Change.{collect}
 use Rattle.definition.specs.Settings.{plain_settings}
-use Rattle.definition.specs.Refusal.{number_of}
 use Rattle.definition.specs.declared.Change.{Change}
 use Rattle.definition.specs.declared.Fault.TheVariants.{Entries, Room}
 use Rattle.definition.specs.declared.Refusal.{Refusal}
@@ -22,13 +19,12 @@ use Rattle.modified.specs.Files.{CountsAll}
 use Rattle.node.specs.Total.{trees_of}
 use Rattle.answers.specs.declared.Answer.{Answer}
 use Rattle.judge.specs.Judge.{told}
-use Rattle.told.specs.Outcome.{changed-judged}
 use Rattle.answers.specs.Answer.{answer_of, outcome_of, refusal, refusal_is}
 use Rattle.answers.specs.Admitted.{Says, Admits, admit_of, said}
 use Rattle.files.specs.declared.Walk.{Walk}
-use Rattle.files.specs.Run.{reaches, first_walk}
-use Rattle.changes.specs.Filled.{laid, filled}
-use Rattle.plan.specs.Collected.{wrote, ended_by, counted, counted-is, Hands}
+use Rattle.files.specs.Run.{first_walk}
+use Rattle.changes.specs.Filled.{started, filled}
+use Rattle.plan.specs.Collected.{wrote, ended_by, counted, admitted, collected, Hands}
 
 no-room : (x : Lent) (f : ℕ) → outcome_of (refusal f 0) (replicate (length x.output) 0) (replicate (length x.list) no_change) ≡ no_room f x
 unfolding outcome_of refusal no_room
@@ -44,46 +40,40 @@ module _ (x : Lent) (k : ℕ) (c : CountsAll x.deck k) where
   unfolding counted
   crowded o l h = rw (← count-is, lt-ltb _ _ h) (no-room x 9)
 
-  module _ (h : k ≤ length x.list) (e : Option Walk) (o : Bytes) (l : List Change) (f : laid e o l ≡ filled x.deck x.pool 0 k first_walk x.output x.list) where
-    ended : counted x ≡ ended_by x k (reaches e) o l
+  module _ (h : k ≤ length x.list) (w : Walk) (o : Bytes) (l : List Change) (f : started w o l ≡ filled x.deck x.pool 0 k (started first_walk x.output x.list)) where
+    ended : counted x ≡ ended_by x k w.start o l
     unfolding counted
     ended = rw (← count-is, le-ltb _ _ h, ← f)
 
     -- the output has no room
-    pub overfull : (q : Refusal) → ok_or e (record { fault = Room; place = 0 }) ≡ Err q → Hands x (Err q) o l
-    unfolding ended_by reaches
-    overfull q z = go e ended z
-      where
-        go :
-            (e : Option Walk) → counted x ≡ ended_by x k (reaches e) o l → ok_or e (record { fault = Room; place = 0 }) ≡ Err q
-            → outcome_of (refusal (number_of q.fault) q.place) (replicate (length x.output) 0) (replicate (length x.list) no_change) ≡ counted x
-        go None d z = let u : record { fault = Room; place = 0 } ≡ q = cc in rw (← u) (no-room x 10 ∙ sym d)
-        go (Some n) d z = let u : ◌≡◌ {A = ℕ} 0 1 = cc in absurd (omega (arith, u))
+    pub overfull : length x.output < w.start → Hands x (Err (record { fault = Room; place = 0 })) o l
+    unfolding ended_by
+    overfull g = no-room x 10 ∙ sym (ended ∙ rw (lt-ltb _ _ g))
 
-    pub roomy : (w : Walk) → ok_or {E = Refusal} e (record { fault = Room; place = 0 }) ≡ Ok w → outcome_of (wrote k w.start) o l ≡ counted x
-    unfolding ended_by reaches
-    roomy w z = go e ended z
-      where
-        go : (e : Option Walk) → counted x ≡ ended_by x k (reaches e) o l → ok_or {E = Refusal} e (record { fault = Room; place = 0 }) ≡ Ok w → outcome_of (wrote k w.start) o l ≡ counted x
-        go None d z = let u : ◌≡◌ {A = ℕ} 0 1 = cc in absurd (omega (arith, u))
-        go (Some m) d z = let u : m ≡ w = cc in rw (← u) (sym d)
+    pub roomy : w.start ≤ length x.output → outcome_of (wrote k w.start) o l ≡ counted x
+    unfolding ended_by
+    roomy g = sym (ended ∙ rw (le-ltb _ _ g))
 
 -- ---- the whole call
 
 module _ (x : Lent) where
-  pub refused-so : (r : Refusal) → told (Err r) ≡ admit_of plain_settings x.deck x.pool (length x.output) (length x.list) → outcome_of (answer_of (Err r)) x.output x.list ≡ write_changed x
-  unfolding told Says
-  refused-so r e = refusal_is x _ _ _ refl ∙ sym ((said plain_settings x _ _ e refl).refuses write_changed changed-judged)
+  pub refused-so : (r : Refusal) → told (Err r) ≡ admit_of plain_settings x.deck x.pool (length x.output) (length x.list) → outcome_of (answer_of (Err r)) x.output x.list ≡ collected x
+  unfolding told collected admitted
+  refused-so r e = refusal_is x _ _ _ refl ∙ rw (← e)
 
   module _ (n : ℕ) (e : told (Ok n) ≡ admit_of plain_settings x.deck x.pool (length x.output) (length x.list)) where
     pub admits : Admits plain_settings x n
     unfolding told Says
     admits = said plain_settings x _ _ e refl
 
-    pub zeroed : (r : Result Answer Refusal) (o : Bytes) (l : List Change) → is_err r ≡ true → Hands x r o l → outcome_of (answer_of r) (replicate (length x.output) 0) (replicate (length x.list) no_change) ≡ write_changed x
-    zeroed (Ok a) o l h z = absurd (true≢false (sym h))
-    zeroed (Err q) o l h z = z ∙ counted-is x n admits
+    counts : counted x ≡ collected x
+    unfolding told collected admitted
+    counts = rw (← e)
 
-    pub handed-back : (r : Result Answer Refusal) (o : Bytes) (l : List Change) → is_err r ≡ false → Hands x r o l → outcome_of (answer_of r) o l ≡ write_changed x
-    handed-back (Ok a) o l h z = z ∙ counted-is x n admits
+    pub zeroed : (r : Result Answer Refusal) (o : Bytes) (l : List Change) → is_err r ≡ true → Hands x r o l → outcome_of (answer_of r) (replicate (length x.output) 0) (replicate (length x.list) no_change) ≡ collected x
+    zeroed (Ok a) o l h z = absurd (true≢false (sym h))
+    zeroed (Err q) o l h z = z ∙ counts
+
+    pub handed-back : (r : Result Answer Refusal) (o : Bytes) (l : List Change) → is_err r ≡ false → Hands x r o l → outcome_of (answer_of r) o l ≡ collected x
+    handed-back (Ok a) o l h z = z ∙ counts
     handed-back (Err q) o l h z = absurd (true≢false h)

@@ -1,5 +1,5 @@
 -- The call from end to end: judged, the changed files counted, the list filled. It is the definition's.
-use Rattle.std.specs.Prelude.{◌≡◌, ℕ, ◌<◌, ◌≤◌, Bool, List, replicate, Option, None, Some, Result, Ok, Err}
+use Rattle.std.specs.Prelude.{◌≡◌, ℕ, ◌<◌, ◌≤◌, Bool, List, replicate, Result, Ok, Err}
 use Rattle.std.proofs.Math.Path.{refl, sym}
 use Rattle.std.proofs.Common.{◌∙◌}
 use Rattle.std.proofs.Math.Bool.{true, false}
@@ -20,9 +20,10 @@ use Rattle.told.proofs.Outcome.{changed-told}
 use Rattle.answers.specs.declared.Answer.{Answer}
 use Rattle.answers.specs.Answer.{outcome_of, refusal}
 use Rattle.answers.specs.Admitted.{Admits, Says, admit_of, said}
-use Rattle.files.specs.Run.{Run, run_of, reaches, first_walk, files-fit, files-over}
-use Rattle.files.specs.Stored.{length-entries, stored-entries}
-use Rattle.changes.specs.Filled.{filled}
+use Rattle.files.specs.declared.Walk.{Walk}
+use Rattle.files.specs.Run.{Run, run_of, run_past, first_walk, files-fit, files-over}
+use Rattle.files.specs.Stored.{length-entries, stored-entries, stored-zeros}
+use Rattle.changes.specs.Filled.{started, filled, filled_is}
 
 -- ---- what the call does
 
@@ -34,17 +35,16 @@ lent_with d p o l = record { deck = d; pool = p; output = o; list = l }
 abbrev pub wrote : ℕ → ℕ → Answer
 wrote k n = record { number = 0; place = 0; length = n; count = k; modified = false }
 
--- after a run of k files
-unfoldable pub ended_by : Lent → ℕ → Option ℕ → Bytes → List Change → Outcome
-ended_by x k None o l = no_room 10 x
-ended_by x k (Some n) o l = outcome_of (wrote k n) o l
+-- after a run of k files that ends so far into the output
+unfoldable pub ended_by : Lent → ℕ → ℕ → Bytes → List Change → Outcome
+ended_by x k n o l = when ltb (length x.output) n then no_room 10 x else outcome_of (wrote k n) o l
 
 -- with a deck that is admitted
 unfoldable pub counted : Lent → Outcome
 counted x =
     let k = length (collect (trees_of x.deck x.pool)) in
-    let f = filled x.deck x.pool 0 k first_walk x.output x.list in
-    when ltb (length x.list) k then no_room 9 x else ended_by x k (reaches f.end) f.out f.list
+    let f = filled x.deck x.pool 0 k (started first_walk x.output x.list) in
+    when ltb (length x.list) k then no_room 9 x else ended_by x k f.walk.start f.out f.list
 
 unfoldable pub admitted : Lent → Verdict → Outcome
 admitted x (Good n) = counted x
@@ -75,6 +75,10 @@ module _ (x : Lent) where
   abbrev ws : List Written
   ws = collect (trees_of d p)
 
+  -- from a walk past the output on the whole list is zeroed, and nothing is written
+  pub zeroed : (w : Walk) (o : Bytes) (l : List Change) → length l ≡ n → length o < w.start → filled d p 0 n (started w o l) ≡ started w o (replicate n no_change)
+  zeroed w o l e h = filled_is d p 0 n w o l ∙ rw (run_past d p n w o h, ← e, stored-zeros l) refl
+
   module _ (m : ℕ) (g : Admits plain_settings x m) where
     told-so : write_changed x ≡ handed (bytes_of_all ws) (entries 0 ws) x
     told-so = changed-told x (trees_of d p) g.accepted.end g.small g.accepted.read
@@ -88,16 +92,16 @@ module _ (x : Lent) where
     crowded h = rw (lt-ltb _ _ h) (sym (told-so ∙ rw (length-entries 0 ws, lt-ltb _ _ h)))
 
     fits : length ws ≤ n → length (bytes_of_all ws) ≤ length x.output → counted x ≡ write_changed x
-    unfolding counted ended_by filled outcome_of handed answered
+    unfolding counted ended_by outcome_of handed answered
     fits h k =
         let f = files-fit d p g.small.deck g.small.pool x.output g.small.output g.accepted.end g.accepted.read k in
-        rw (le-ltb _ _ h, f.0, f.1, f.2, stored-entries 0 ws x.list h) (sym (told-so ∙ rw (length-entries 0 ws, le-ltb _ _ h, le-ltb _ _ k)))
+        rw (le-ltb _ _ h, filled_is d p 0 (length ws) first_walk x.output x.list, f.0, le-ltb _ _ k, f.1, f.2, stored-entries 0 ws x.list h) (sym (told-so ∙ rw (length-entries 0 ws, le-ltb _ _ h, le-ltb _ _ k)))
 
     overfull : length ws ≤ n → length x.output < length (bytes_of_all ws) → counted x ≡ write_changed x
-    unfolding counted ended_by filled handed reaches
+    unfolding counted ended_by handed
     overfull h k =
         let z = files-over d p g.small.deck g.small.pool x.output g.small.output g.accepted.end g.accepted.read k in
-        rw (le-ltb _ _ h, z) (sym (told-so ∙ rw (length-entries 0 ws, le-ltb _ _ h, lt-ltb _ _ k)))
+        rw (le-ltb _ _ h, filled_is d p 0 (length ws) first_walk x.output x.list, lt-ltb _ _ z) (sym (told-so ∙ rw (length-entries 0 ws, le-ltb _ _ h, lt-ltb _ _ k)))
 
     pub counted-is : counted x ≡ write_changed x
     counted-is = go (ltb n (length ws)) (ltb (length x.output) (length (bytes_of_all ws))) refl refl

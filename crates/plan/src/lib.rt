@@ -4,7 +4,7 @@
 ghost use Rattle.std.specs.Prelude.{◌≡◌, ◌≤◌, length};
 ghost use Rattle.definition.specs.Calls.{write_changed};
 ghost use Rattle.answers.specs.Answer.{outcome_of, answer_of};
-ghost use Rattle.plan.specs.Collected.{lent_with, Hands};
+ghost use Rattle.plan.specs.Collected.{lent_with, Hands, collected};
 
 use answers::{Answer, admit, answer_of};
 use definition::{Change, Cursor, Fault, NullStyle, Refusal, Settings};
@@ -29,15 +29,17 @@ fn write_files(given: &Given, out: &mut [u8], list: &mut [Change]) -> Result<Ans
             place: 0,
         });
     }
-    let no_room = Refusal {
-        fault: Fault::Room,
-        place: 0,
-    };
     let front = Walk {
         at: Cursor { at: 0 },
         start: 0,
     };
-    let end = changes::fill_list(list, given, out, front, count).ok_or(no_room)?;
+    let end = changes::fill_list(list, given, out, front, count);
+    if out.len() < end.start {
+        return Err(Refusal {
+            fault: Fault::Room,
+            place: 0,
+        });
+    }
     Ok(Answer {
         number: 0,
         place: 0,
@@ -50,7 +52,7 @@ fn write_files(given: &Given, out: &mut [u8], list: &mut [Change]) -> Result<Ans
 // The limits, the judge, the files. Where there was no room output and list are zeroed.
 fn attempt(deck: &[u8], pool: &[u8], out: &mut [u8], list: &mut [Change]) -> Result<Answer, Refusal>
     ensures { outcome_of (answer_of result) out.new list.new
-        ≡ write_changed (lent_with deck.now pool.now out.old list.old) }
+        ≡ collected (lent_with deck.now pool.now out.old list.old) }
 {
     let settings = Settings::from(NullStyle::Null);
     admit(deck, pool, out.len(), list.len(), &settings)?;

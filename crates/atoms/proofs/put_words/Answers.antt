@@ -2,12 +2,14 @@
 use Rattle.std.proofs.Common.{sym, ◌∙◌}
 use Rattle.atoms.proofs.Laws.{aside, again, bare}
 use Rattle.atoms.proofs.put_words.Goals as goal
-
-pub returns-then-is_marked : goal.returns-then-is_marked
-returns-then-is_marked c = aside _ _ _ _ _ _ _ _ (sym c.is_marked.ensures ∙ c.if-is_marked.true) c.put_fresh.ensures
+use Rattle.atoms.proofs.put_words.Goals.{in_default-via-in-Some+else-not-modified, in_default-via-in_default}
 
 pub returns-in-Some : goal.returns-in-Some
-returns-in-Some c = again _ _ _ _ _ _ _ _ (sym c.is_marked.ensures ∙ c.if-is_marked.false) c.in-Some.is c.text_in.ensures c.words_of.ensures c.replay.ensures
+returns-in-Some c = again _ _ _ _ _ _ _ _ (sym c.is_marked-modified.ensures ∙ c.if-not-modified.true) c.in-Some.is c.text_in.ensures c.words_of.ensures c.replay.ensures
 
-pub returns-in-None : goal.returns-in-None
-returns-in-None c = bare _ _ _ _ _ _ _ _ c.in-None.is c.put_fresh-in-None.ensures
+pub returns-in_default : goal.returns-in_default
+returns-in_default c =
+    elim c.in_default.branch [
+      | in_default-via-in-Some+else-not-modified w ↦ aside _ _ _ _ _ _ _ _ (sym c.is_marked-modified.ensures ∙ w.if-not-modified.false) c.put_fresh.ensures
+      | in_default-via-in_default w ↦ bare _ _ _ _ _ _ _ _ w.in_default.is c.put_fresh.ensures
+    ]

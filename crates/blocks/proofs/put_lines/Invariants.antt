@@ -1,8 +1,14 @@
+-- `blocks::put_lines` meets its contract.
 use mathlib.Core.Path.{◌≡◌}
-use mathlib.Core.List.{map}
+use mathlib.Core.Bool.{true}
+use Prim.Native.Nat.{◌-◌}
+use lib.ListN.{length, drop}
+use Rattle.definition.specs.Block.{indented}
 use Rattle.pen.specs.Pen.{pen, puts}
-use Rattle.blocks.proofs.Laws.{lines}
 use Rattle.blocks.proofs.put_lines.Given as goal
 
-abbrev pub invariant-loop-line : goal.invariant-loop-line
-invariant-loop-line l = pen l.w l.out ≡ puts (lines l.indent (map (λ x. x.now) l.yielded)) (pen l.initial.w l.initial.out)
+abbrev pub invariant-loop-g : goal.invariant-loop-g
+invariant-loop-g l = (puts (indented l.indent l.g.fresh (drop l.g.at l.t)) (pen l.g.w l.out) ≡ puts (indented l.indent true l.t) (pen l.initial.g.w l.initial.out)) × (length l.out ≡ length l.initial.out)
+
+abbrev pub decreases-loop-g : goal.decreases-loop-g
+decreases-loop-g l = length l.t - l.g.at

@@ -3,4 +3,4 @@ use Rattle.pen.proofs.Texts.{stores}
 use Rattle.pen.proofs.copy_to.Goals as goal
 
 pub returns : goal.returns
-returns c = stores _ _ _ _ _ _ c.min-start.ensures (omega (arith, c.min-end.ensures, c.saturating_add.ensures)) c.copy_from_slice.ensures.after
+returns c = stores _ _ _ _ _ _ c.min-start.ensures (omega (arith, c.min-end.ensures, c.saturating_add.ensures)) c.copy.ensures
