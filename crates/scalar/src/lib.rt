@@ -1,18 +1,18 @@
 // Scalars and the separators between flow entries, written straight out: what must be quoted, how, and the bytes.
 #![tactic(auto)]
 
-ghost use Rattle.std.specs.Prelude.{◌≡◌, ℕ, Bool, false, ◌&&◌, ◌+◌, ◌^◌, ◌≤◌, ◌<◌, ◌++◌, length, leb};
+ghost use Rattle.std.specs.Prelude.{◌≡◌, ℕ, Bool, false, ◌&&◌, ◌+◌, ◌^◌, ◌≤◌, ◌<◌, ◌++◌, length, get_or, leb};
 ghost use Rattle.definition.specs.Base.{when◌then◌else◌};
 ghost use Rattle.definition.specs.Block.{block_header, block_body};
 ghost use Rattle.definition.specs.Settings.{folds};
 ghost use Rattle.definition.specs.Scalar.{starts_bom, unsafe_in_flow, must_quote, separator};
 ghost use Rattle.laws.specs.Leaf.{quotable_at, quoted_at, own_at, scalar_bytes};
 ghost use Rattle.pen.specs.Pen.{fields, pen, puts};
-ghost use Rattle.scalar.specs.Tests.{refused_at, flow_mark};
+ghost use Rattle.scalar.specs.Tests.{refused_at, flow_mark, unsafe_at};
 
 use blocks::{put_block_body, put_header};
 use definition::{Settings, Style};
-use laws::any_place;
+use laws::{any_place, byte_or};
 use pen::{Writer, at_least_one};
 use pieces::{is_c1, is_non};
 use quoted::{has_breakable, put_styled, will_fold};
@@ -33,15 +33,26 @@ fn flow_mark(a: u8) -> bool
     matches!(a, b',' | b'[' | b']' | b'{' | b'}')
 }
 
-// A plain scalar in flow would be read otherwise.
+// A plain scalar in flow would be read otherwise for what stands at a place: the byte after it is looked at only where it matters.
+#[tactic(auto, unfolding(crate::specs::Tests::unsafe_at))]
+fn is_unsafe(t: &[u8], i: usize) -> bool
+    requires { (i < length t.now) × (length t.now ≤ 65536) }
+    ensures { result ≡ unsafe_at (get_or t.now i 0) (get_or t.now (i + 1) 32) (get_or t.now (i + 2) 32) }
+{
+    flow_mark(t[i]) || (t[i] == b':' && byte_or(t, i + 1, b' ') == b' ')
+}
+
+// A plain scalar in flow would be read otherwise. A loop of its own, since `any_place` fetches two bytes more at each place (docs/DESIGN-PASS.md).
 pub fn unsafe_in_flow(t: &[u8]) -> bool
     requires { length t.now ≤ 65536 }
     ensures { result ≡ unsafe_in_flow t.now }
 {
-    // Most bytes are small letters: these are told first.
-    any_place(t, b' ', |a, b, _| {
-        !matches!(a, b'a'..=b'z') && (flow_mark(a) || (a == b':' && b == b' '))
-    })
+    for i in 0..t.len() {
+        if is_unsafe(t, i) {
+            return true;
+        }
+    }
+    false
 }
 
 // Single quotes do not take the byte `a`, with `b` and `c` after it.
