@@ -209,14 +209,20 @@ impl Writer {
         self
     }
 
-    // The same after `n` bytes more, the last of which is `last`. `out` is as it was before them.
+    // The same after `n` bytes more, the last of which is `last`. `out` is as it was before them. Nearly every byte has room: there the count grows
+    // by `n`, and nothing else is worked out (docs/DESIGN-PASS.md).
     fn put_on(mut self, out: &[u8], n: usize, last: u8) -> Self
         requires { (0 < n) × (length out.now < 2 ^ 21) }
         ensures { fields result ≡ put_to (min ((fields self).len + n) (length out.now + 2)) last (get_or out.now ((fields self).len + n - 1) 0) (fields self) }
     {
         let end = self.len().saturating_add(n);
-        let under = out.get(end - 1).copied().unwrap_or(0);
-        self.counts = self.counts / RAW * RAW + end.min(out.len() + 2);
+        let mut under = 0;
+        if end <= out.len() {
+            self.counts += n;
+            under = out[end - 1];
+        } else {
+            self.counts = self.counts / RAW * RAW + end.min(out.len() + 2);
+        }
         self.state = self.state / KEY * KEY + usize::from(last) * 256 + usize::from(under);
         self
     }

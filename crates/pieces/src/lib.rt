@@ -196,15 +196,15 @@ pub fn put_single(w: Writer, out: &mut [u8], a: u8) -> Writer
     w.byte(out, a)
 }
 
-// Between double quotes the byte begins an escape, at least before certain others. Most bytes are small letters: these are told first.
+// Between double quotes the byte begins an escape, at least before certain others.
 fn is_marked(a: u8) -> bool
     ensures { result ≡ marked a }
 {
-    !matches!(a, 0x5d..=0x7e) && (a < 0x20 || matches!(a, b'"' | b'\\' | 0x7f | 0xc2 | 0xef))
+    a < 0x20 || matches!(a, b'"' | b'\\' | 0x7f | 0xc2 | 0xef)
 }
 
 // Whether the byte begins no escape and is not `stop`, so that it is written as it is. A byte that begins an escape only before certain
-// others counts as one that does.
+// others counts as one that does. The stop is asked for first, and small letters are not: docs/DESIGN-PASS.md has the times.
 #[tactic(auto, using(crate::proofs::Laws::own_single, crate::proofs::Laws::own_double))]
 fn is_own(a: u8, stop: u8, single: bool) -> bool
     ensures { result ≡ true → Own (quote_by single) stop a }
